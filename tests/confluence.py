@@ -16,8 +16,11 @@ Of crashes and of failovers less is asked: where nothing hangs and no call is op
 without a tuple in its list. It is proved of them (rh_otp_crashes), of failovers under more conditions than are asked here. Nor do two part
 at a stop where nothing hangs and no call is open, at an exit there that keeps its node, or where an application is forbidden there that
 isn't distributed. That is proved (rh_otp_stops) where no call has a lock and, of a distributed one, the node sees all that it knows of and
-nobody waits at it. Nor do they where an application that isn't distributed is started there, or permitted, or ends its node; nor at a
-start of one that runs at the first node of its list. It is proved of them (rh_otp_starts), of the last under more conditions.
+nobody waits at it. Nor do they where an application that isn't distributed is started there, or permitted; where any ends its node, and no
+failover time is 0; nor at a start of one that runs at the first node of its list. It is proved of them (rh_otp_starts), of the last two
+under more conditions. Nor do they where a distributed one is started at the first node of its list that may run it, at one that leaves it
+to that, or where none may run it; nor where it is permitted or forbidden, and that changes nothing else. That is proved (rh_otp_begins,
+rh_otp_permits), of the first two and the last under more conditions.
 """
 import os
 import random
@@ -49,12 +52,16 @@ ORDERS = 8
 # At least so many rehearsals have to have such a file, with so many commands within the conditions.
 LEAST_REHEARSALS, LEAST_COMMANDS = 200, 2_000
 # And so many crashes of nodes at rest, failovers at one node, stops at rest, exits there that keep their node, forbids, starts and permits
-# there of what isn't distributed, exits there of it that end their node, and starts there of what runs at the first node of its list, among
-# the random rehearsals of any kind.
+# there of what isn't distributed, exits there that end their node, starts there of what runs at the first node of its list, and permits
+# and forbids there of what is distributed that change nothing else, among the random rehearsals of any kind.
 LEAST_CRASHES, LEAST_FAILOVERS, LEAST_STOPS, LEAST_EXITS = 200, 25, 150, 15
-LEAST_FORBIDS, LEAST_STARTS, LEAST_PERMITS, LEAST_FATAL, LEAST_ELSEWHERE = 40, 15, 8, 5, 5
+LEAST_FORBIDS, LEAST_STARTS, LEAST_PERMITS, LEAST_FATAL, LEAST_ELSEWHERE, LEAST_ALONE = 40, 15, 8, 10, 5, 150
 # Seeds of random clusters that lose the node at which their one application runs, and so many failovers at several nodes there have to be.
 LOST_FIRST, LOST_COUNT, LOST_AT_ONCE, LEAST_JOINT = 75_000, 200, 50, 100
+# Seeds of random clusters in which an application is started, and so many starts there have to be that start it, leave it to another node,
+# or find no node that may run it.
+BEGIN_FIRST, BEGIN_COUNT, BEGIN_AT_ONCE = 76_000, 200, 50
+LEAST_HERE, LEAST_LEFT, LEAST_NOWHERE = 30, 50, 100
 # For each condition a rehearsal that breaks it alone, and in which orders part: a script of tests/live, or a random one of a seed; and in
 # how many orders that shows.
 NEEDED: tuple[tuple[str, Union[str, int], int], ...] = (
@@ -171,10 +178,9 @@ def is_start_at_rest(word: str, cluster: ClusterFile, command: str, before: Line
 
 
 def is_fatal_at_rest(cluster: ClusterFile, command: str, before: Lines, answer: Lines) -> bool:
-    """An application that isn't distributed ends by itself where nothing hangs, its node ends with it, and no failover time is 0."""
-    word, *rest = words_of(command)
-    is_alone = word == "exit" and rest[1] not in cluster.entries and all(entry.timeout > 0 for entry in cluster.entries.values())
-    return is_alone and not hangs(before) and any(line.startswith("ended ") for line, _ in answer[1])
+    """An application ends by itself where nothing hangs, its node ends with it, and no failover time is 0."""
+    is_exit = words_of(command)[0] == "exit" and all(entry.timeout > 0 for entry in cluster.entries.values())
+    return is_exit and not hangs(before) and any(line.startswith("ended ") for line, _ in answer[1])
 
 
 def is_start_elsewhere(cluster: ClusterFile, command: str, before: Lines) -> bool:
@@ -184,6 +190,65 @@ def is_start_elsewhere(cluster: ClusterFile, command: str, before: Lines) -> boo
         return False
     first = cluster.entries[rest[1]].groups[0]
     return isinstance(first, str) and first != rest[0] and (f"app {rest[1]} running {first}", 1) in before[1]
+
+
+def first_of(cluster: ClusterFile, app: str, before: Lines) -> Optional[str]:
+    """The first node of an application's list that is up and isn't forbidden to run it, with no tuple before it."""
+    lines = {line for line, _ in before[1]}
+    for group in cluster.entries[app].groups:
+        if not isinstance(group, str):
+            return None
+        if any(line.startswith(f"node {group} up ") for line in lines) and f"{group}  forbidden {app}" not in lines:
+            return group
+    return None
+
+
+def is_distributed_start(cluster: ClusterFile, command: str, before: Lines) -> bool:
+    """A distributed application is started where nothing hangs."""
+    word, *rest = words_of(command)
+    return word == "start" and rest[1] in cluster.entries and not hangs(before)
+
+
+def is_start_here(cluster: ClusterFile, command: str, before: Lines, after: Lines) -> bool:
+    """A distributed application is started where nothing hangs, at the first node of its list that may run it, and runs there behind
+    that, and didn't before."""
+    _, *rest = words_of(command)
+    if not is_distributed_start(cluster, command, before) or first_of(cluster, rest[1], before) != rest[0]:
+        return False
+    runs = f"{rest[0]}  running {rest[1]} "
+    return not any(line.startswith(runs) for line, _ in before[1]) and any(line.startswith(runs) for line, _ in after[1])
+
+
+def is_start_left(cluster: ClusterFile, command: str, before: Lines, after: Lines) -> bool:
+    """A distributed application is started where nothing hangs, and another node is the first of its list that may run it, where it
+    doesn't run; so the call stays open."""
+    _, *rest = words_of(command)
+    if not is_distributed_start(cluster, command, before) or first_of(cluster, rest[1], before) in (None, rest[0]):
+        return False
+    return (f"app {rest[1]} nowhere", 1) in before[1] and any(line.startswith("open ") for line, _ in after[1])
+
+
+def is_start_nowhere(cluster: ClusterFile, command: str, before: Lines, answer: Lines) -> bool:
+    """A distributed application is started where nothing hangs, no node of its list that is up may run it, and it runs nowhere."""
+    _, *rest = words_of(command)
+    if not is_distributed_start(cluster, command, before) or answer[0] != "ok":
+        return False
+    groups = [[group] if isinstance(group, str) else list(group) for group in cluster.entries[rest[1]].groups]
+    lines = {line for line, _ in before[1]}
+    may = [node for group in groups for node in group
+           if any(line.startswith(f"node {node} up ") for line in lines) and f"{node}  forbidden {rest[1]}" not in lines]
+    return not may and f"app {rest[1]} nowhere" in lines
+
+
+def is_permit_alone(cluster: ClusterFile, command: str, before: Lines) -> bool:
+    """A distributed application is permitted, or forbidden, where nothing hangs and that changes nothing else: it isn't started at the
+    node; or it is permitted, and runs there; or it is forbidden, and neither runs there nor is lost."""
+    word, *rest = words_of(command)
+    if word != "permit" or rest[1] not in cluster.entries or hangs(before):
+        return False
+    runs, waits, lost = (any(line.startswith(f"{rest[0]}  {kind} {rest[1]} ") for line, _ in before[1])
+                         for kind in ("running", "waiting", "timer failover"))
+    return not runs and not lost if rest[2] == "false" else runs or not waits
 
 
 def due_in(command: str, before: Lines) -> list[list[str]]:
@@ -224,8 +289,9 @@ def broken_by_step(cluster: ClusterFile, command: str, before: Lines, answer: Li
 class Measured:
     """A rehearsal: its commands, the conditions that each of them breaks, those of the file the first one, which of them are crashes of
     nodes at rest, which failovers at one node and which at several, which stops at rest, which exits that keep their node, which forbids,
-    starts and permits of what isn't distributed, which exits of it that end their node, which starts of what runs at the first node of
-    its list, and the first command at which two orders part."""
+    starts and permits of what isn't distributed, which exits that end their node, which starts of what runs at the first node of
+    its list, which starts of what is distributed that start it at its first node, leave it to another one, or find none that may run it,
+    which permits and forbids of it that change nothing else, and the first command at which two orders part."""
     name: str
     kind: str
     commands: list[str]
@@ -240,6 +306,10 @@ class Measured:
     permits: set[int]
     fatal: set[int]
     elsewhere: set[int]
+    here: set[int]
+    left: set[int]
+    nowhere: set[int]
+    alone: set[int]
     first: Optional[int]
 
     @property
@@ -258,7 +328,7 @@ class Measured:
     def wrong_proof(self) -> Optional[str]:
         """At which command of those that are proved alike two orders part, or None."""
         ends = self.crashes | self.failovers | self.joint | self.stops | self.exits | self.fatal
-        proved = ends | self.forbids | self.starts | self.permits | self.elsewhere
+        proved = ends | self.forbids | self.starts | self.permits | self.elsewhere | self.here | self.left | self.nowhere | self.alone
         return f"two orders part at command {self.first + 1}" if self.first in proved else None
 
 
@@ -306,7 +376,7 @@ def starts_in(word: str, text: str, commands: list[str], told: list[Told]) -> se
 
 
 def fatal_in(text: str, commands: list[str], told: list[Told]) -> set[int]:
-    """Which commands of a rehearsal are exits of an application that isn't distributed, at nodes at rest, which end their node."""
+    """Which commands of a rehearsal are exits at nodes at rest, which end their node."""
     cluster = cluster_of(split_input(text).cluster)
     return {place for place, (command, before, one) in enumerate(zip(commands[1:], told, told[1:]), 1)
             if is_fatal_at_rest(cluster, command, before.report, one.answer)}
@@ -316,6 +386,33 @@ def elsewhere_in(text: str, commands: list[str], told: list[Told]) -> set[int]:
     """Which commands of a rehearsal start an application that runs at the first node of its list, at another node at rest."""
     cluster = cluster_of(split_input(text).cluster)
     return {place for place, (command, before) in enumerate(zip(commands[1:], told), 1) if is_start_elsewhere(cluster, command, before.report)}
+
+
+def here_in(text: str, commands: list[str], told: list[Told]) -> set[int]:
+    """Which commands of a rehearsal start a distributed application at the first node of its list, at rest."""
+    cluster = cluster_of(split_input(text).cluster)
+    return {place for place, (command, before, one) in enumerate(zip(commands[1:], told, told[1:]), 1)
+            if is_start_here(cluster, command, before.report, one.report)}
+
+
+def left_in(text: str, commands: list[str], told: list[Told]) -> set[int]:
+    """Which commands of a rehearsal start a distributed application at a node at rest that leaves it to another one."""
+    cluster = cluster_of(split_input(text).cluster)
+    return {place for place, (command, before, one) in enumerate(zip(commands[1:], told, told[1:]), 1)
+            if is_start_left(cluster, command, before.report, one.report)}
+
+
+def nowhere_in(text: str, commands: list[str], told: list[Told]) -> set[int]:
+    """Which commands of a rehearsal start a distributed application that no node may run, at a node at rest."""
+    cluster = cluster_of(split_input(text).cluster)
+    return {place for place, (command, before, one) in enumerate(zip(commands[1:], told, told[1:]), 1)
+            if is_start_nowhere(cluster, command, before.report, one.answer)}
+
+
+def alone_in(text: str, commands: list[str], told: list[Told]) -> set[int]:
+    """Which commands of a rehearsal permit or forbid a distributed application, at nodes at rest, and change nothing else."""
+    cluster = cluster_of(split_input(text).cluster)
+    return {place for place, (command, before) in enumerate(zip(commands[1:], told), 1) if is_permit_alone(cluster, command, before.report)}
 
 
 def parting(told: list[list[Told]]) -> Optional[int]:
@@ -332,8 +429,9 @@ def measured(one: Rehearsal, told: list[list[Told]]) -> Measured:
     starts, permits = (starts_in(word, one.text, commands, told[0]) for word in ("start", "permit"))
     failovers = failovers_in(commands, told[0])
     fatal, elsewhere = (tell(one.text, commands, told[0]) for tell in (fatal_in, elsewhere_in))
+    here, left, nowhere, alone = (tell(one.text, commands, told[0]) for tell in (here_in, left_in, nowhere_in, alone_in))
     return Measured(str(one.seed), one.kind, commands, broken, crashes, failovers, joint, stops, exits, forbids, starts, permits, fatal,
-                    elsewhere, parting(told))
+                    elsewhere, here, left, nowhere, alone, parting(told))
 
 
 # ---- The tests
@@ -389,6 +487,40 @@ def losses(_program: str, seeds: range) -> Iterator[Test]:
     return found
 
 
+def beginning(seed: int) -> Rehearsal:
+    """A random cluster with one distributed application, in a list without tuples, which some nodes may not run: all nodes boot, and it is
+    started at two nodes of the list, or twice at one."""
+    chance = random.Random(seed)
+    nodes = [f"n{number}@lab" for number in range(1, chance.randint(2, 6) + 1)]
+    listed, forbidden = chance.sample(nodes, chance.randint(2, len(nodes))), chance.choice([0.0, 0.4, 1.0])
+    cluster = Cluster(2, nodes, ["d1"], {"d1": Spread(5_000, [[node] for node in listed])}, nodes, 5_000)
+    complete_lists(chance, cluster)
+    cluster.permissions = {node: {"d1": False} for node in listed if chance.random() < forbidden}
+    starts = [f"start {chance.choice(listed)} d1 {chance.choice(TYPES)}" for _ in range(2)]
+    lines = [*(f"boot {node}" for node in nodes), *starts]
+    return Rehearsal(seed, KINDS[0], f"{cluster.text}===\n" + "".join(f"{line}\n" for line in lines))
+
+
+def beginnings(_program: str, seeds: range) -> Iterator[Test]:
+    """Clusters in which an application is started."""
+    found = [in_orders(beginning(seed)) for seed in seeds]
+    for one in found:
+        yield f"orders of messages at a start, cluster {one.name}", one.wrong_proof
+    return found
+
+
+def of_beginnings(parts: list[list[Measured]]) -> Iterator[Test]:
+    """There are enough starts of distributed applications, and the page has their counts."""
+    found = [one for part in parts for one in part]
+    counts = [sum(map(len, places)) for places in zip(*((one.here, one.left, one.nowhere) for one in found))]
+    is_enough = all(count >= enough for count, enough in zip(counts, (LEAST_HERE, LEAST_LEFT, LEAST_NOWHERE)))
+    yield "orders of messages: enough starts of distributed applications", None if is_enough else f"{counts} of them"
+    kinds = ("at the first node of its list that may run it, which is up", "at another node, which leaves it to that one",
+             "that no node of its list that is up may run")
+    yield "orders of messages at starts of distributed applications: the page", is_in_page(
+        [f"| A start of a distributed application {kind} | {count} | 0 |" for kind, count in zip(kinds, counts)])
+
+
 def of_losses(parts: list[list[Measured]]) -> Iterator[Test]:
     """There are enough failovers at several nodes, and the page has their count."""
     count = sum(len(one.joint) for part in parts for one in part)
@@ -435,8 +567,10 @@ def proved_rows(found: list[Measured]) -> list[str]:
                "A forbid of an application that isn't distributed, at a node at rest": [one.forbids for one in found],
                "A start of an application that isn't distributed, at a node at rest": [one.starts for one in found],
                "A permit of an application that isn't distributed, at a node at rest": [one.permits for one in found],
-               "An exit of an application that isn't distributed, at a node at rest, which ends the node": [one.fatal for one in found],
-               "A start of an application that runs at the first node of its list, at another one at rest": [one.elsewhere for one in found]}
+               "An exit at a node at rest, which ends the node, where no application has a timeout of 0": [one.fatal for one in found],
+               "A start of an application that runs at the first node of its list, at another one at rest": [one.elsewhere for one in found],
+               "A permit or forbid of a distributed application, at a node at rest, which changes nothing else":
+                   [one.alone for one in found]}
     return [f"| {kind} | {sum(map(len, commands))} | {sum(one.first in those for one, those in zip(found, commands))} |"
             for kind, commands in of_kind.items()]
 
@@ -445,13 +579,14 @@ def of_anywhere(parts: list[list[Measured]]) -> Iterator[Test]:
     """Somewhere orders do part, and the page has the counts."""
     found = [one for part in parts for one in part]
     yield "orders of messages: they matter", None if any(one.first is not None for one in found) else "no two orders part anywhere"
-    proved = ((one.crashes, one.failovers, one.stops, one.exits, one.forbids, one.starts, one.permits, one.fatal, one.elsewhere)
+    proved = ((one.crashes, one.failovers, one.stops, one.exits, one.forbids, one.starts, one.permits, one.fatal, one.elsewhere, one.alone)
               for one in found)
     counts = [sum(map(len, places)) for places in zip(*proved)]
     least = (LEAST_CRASHES, LEAST_FAILOVERS, LEAST_STOPS, LEAST_EXITS, LEAST_FORBIDS, LEAST_STARTS, LEAST_PERMITS, LEAST_FATAL,
-             LEAST_ELSEWHERE)
+             LEAST_ELSEWHERE, LEAST_ALONE)
     is_enough = all(count >= enough for count, enough in zip(counts, least))
-    names = "crashes of nodes at rest, failovers at one node, stops, exits, forbids, starts, permits, fatal exits and starts elsewhere"
+    names = ("crashes of nodes at rest, failovers at one node, stops, exits, forbids, starts, permits, fatal exits, starts elsewhere, "
+             "permits alone")
     yield "orders of messages: enough of what is proved alike", None if is_enough else f"{counts} {names}"
     yield "orders of messages at what is proved alike: the page", is_in_page(proved_rows(found))
     rows = [row_of(kind.capitalize(), [one for one in found if one.kind == kind]) for kind in KINDS]
@@ -470,4 +605,5 @@ def of_kept(parts: list[list[Measured]]) -> Iterator[Test]:
 KEPT = ranges(KEPT_FIRST, KEPT_COUNT, KEPT_AT_ONCE)
 TESTS: tuple[Group | Callable[[str], Iterable[Test]], ...] = (
     Group(anywhere, ranges(FIRST, COUNT, AT_ONCE), is_long=True, end=of_anywhere), Group(kept, KEPT, is_long=True, end=of_kept),
-    Group(by_words, KEPT), Group(losses, ranges(LOST_FIRST, LOST_COUNT, LOST_AT_ONCE), end=of_losses), needed)
+    Group(by_words, KEPT), Group(losses, ranges(LOST_FIRST, LOST_COUNT, LOST_AT_ONCE), end=of_losses),
+    Group(beginnings, ranges(BEGIN_FIRST, BEGIN_COUNT, BEGIN_AT_ONCE), end=of_beginnings), needed)

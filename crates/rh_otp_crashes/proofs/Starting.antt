@@ -64,7 +64,7 @@ candidate_by m candidates (n ∷ nodes) false behind rest is = at (is_among n ca
     at true so is = ap (λ (k : Node). is_among k candidates) (sym (same_Some n m is)) ∙ so
     at false so is = rest is
 
-is_candidate : (m : Node) (candidates : List Node) (places : List WrittenView) → first_of candidates places ≡ Some m
+pub is_candidate : (m : Node) (candidates : List Node) (places : List WrittenView) → first_of candidates places ≡ Some m
     → is_among m candidates ≡ true
 is_candidate m candidates [] is = absurd (none-some m is)
 is_candidate m candidates (w ∷ places) is =

@@ -7,17 +7,16 @@ use Rattle.std.proofs.lemmas.List.Elements.{All-nil, All-cons, All-weaker}
 use Rattle.std.proofs.lemmas.Option.{none-some, same_Some}
 use Rattle.rh_model.specs.declared.node.App.{App}
 use Rattle.rh_model.specs.declared.node.Node.{Node}
-use Rattle.rh_otp_model.specs.declared.fault.Outcome.TheVariants.{Done}
+use Rattle.rh_model.specs.declared.settings.Dep.{Dep}
 use Rattle.rh_otp_model.specs.declared.message.Message.{Message}
 use Rattle.rh_otp_model.specs.declared.message.Message.TheVariants as message
 use Rattle.rh_otp_model.specs.declared.output.Envelope.{Envelope}
 use Rattle.rh_otp_model.specs.Rows.{without_rows}
 use Rattle.rh_otp_dist.specs.declared.state.Stand.TheVariants as stand
-use Rattle.rh_otp_dist.specs.declared.state.Standing.TheVariants as standing
 use Rattle.rh_otp_dist.specs.Outside.{with_message}
-use Rattle.rh_otp_dist.specs.Sending.{del_t_reqs, answer_each, with_takeovers}
+use Rattle.rh_otp_dist.specs.Sending.{del_t_reqs, answer_each, outcome_of, with_takeovers}
 use Rattle.rh_otp_dist.specs.State.{DistView, TurnView, with_standing, is_among}
-use Rattle.rh_otp_dist.specs.Told.{run, set_standing}
+use Rattle.rh_otp_dist.specs.Told.{run, set_standing, standing_behind}
 use Rattle.rh_otp_dist.specs.Waiting.{takes}
 use Rattle.rh_otp_net.specs.Links.{are_linked}
 use Rattle.rh_otp_node.specs.Live.{LiveView, is_alive}
@@ -88,22 +87,23 @@ loses {lives} {n} {a} loss s f alive first none =
 -- ---- it runs
 
 -- what the others that it knows are told
-abbrev it_is_here : Node → App → Message
-it_is_here n a = message.AppStarted n a None
+abbrev pub it_is_here : Node → App → Option Dep → Message
+it_is_here n a error = message.AppStarted n a error
 
-abbrev run_over : App → TurnView → TurnView
-run_over a t = record t {
-  state = record (with_standing a standing.Local t.state) { t_reqs = [] };
-  out = t.out ++ posts t.here.node (it_is_here t.here.node a) t.state.known;
+abbrev pub run_over : App → Option Dep → TurnView → TurnView
+run_over a error t = record t {
+  state = record (with_standing a (standing_behind error) t.state) { t_reqs = [] };
+  out = t.out ++ posts t.here.node (it_is_here t.here.node a error) t.state.known;
 }
 
-runs_so : (a : App) (t : TurnView) → t.state.t_reqs ≡ [] → run a None t ≡ run_over a t
+pub runs_so : (a : App) (error : Option Dep) (t : TurnView) → t.state.t_reqs ≡ [] → run a error t ≡ run_over a error t
 unfolding run del_t_reqs
-runs_so a t none =
-    ap (λ (u : TurnView). set_standing a standing.Local (with_takeovers (without_rows a u.state.t_reqs) (answer_each a Done u.state.t_reqs u)))
-    (sends (it_is_here t.here.node a) t.state.known t)
-    ∙ ap (λ rows. set_standing a standing.Local (with_takeovers (without_rows a rows)
-    (answer_each a Done rows (record t { out = t.out ++ posts t.here.node (it_is_here t.here.node a) t.state.known })))) none
+runs_so a error t none =
+    ap (λ (u : TurnView). set_standing a (standing_behind error)
+    (with_takeovers (without_rows a u.state.t_reqs) (answer_each a (outcome_of error) u.state.t_reqs u)))
+    (sends (it_is_here t.here.node a error) t.state.known t)
+    ∙ ap (λ rows. set_standing a (standing_behind error) (with_takeovers (without_rows a rows)
+    (answer_each a (outcome_of error) rows (record t { out = t.out ++ posts t.here.node (it_is_here t.here.node a error) t.state.known })))) none
 
 pub is_news : {lives : Node → ℕ} {n : Node} {a : App} (e : Envelope) → IsAbroad lives n a e → IsNews lives n a e
 is_news _ (hears m other) = tells m other
@@ -141,10 +141,10 @@ ran_idle {lives} {n} {a} s d f alive has free is none seen =
     let old : LiveView = node_at s n in
     let there : live_at s n ≡ Some old = at.1 ∙ ap Some (sym (node_is s n at.0 at.1)) in
     let t : TurnView = turn s.cluster (own_in s.files n) n (lives n) d in
-    let over : TurnView = run_over a t in
+    let over : TurnView = run_over a None t in
     let new : LiveView = record old { dist = Some over.state } in
     let next : SystemView = with_node n new s in
-    let msg : Message = it_is_here n a in
+    let msg : Message = it_is_here n a None in
     let more : List Envelope = mails lives next n msg d.known in
     let away : All (IsAbroad lives n a) more = all_mailed lives (IsAbroad lives n a) next n msg d.known hears in
     let lives_on : (k : Node) → (node_at next k).life ≡ lives k =
@@ -159,7 +159,7 @@ ran_idle {lives} {n} {a} s d f alive has free is none seen =
         set = [];
         seen = [];
         is = idle_comes s.cluster s.files n (lives n) (message.Run a None) d over free is refl
-            (λ w. runs_so a (weighing w t) none) s old there has (f.same_lives n) refl refl
+            (λ w. runs_so a None (weighing w t) none) s old there has (f.same_lives n) refl refl
             ∙ all_posted n msg d.known next lives_on (λ m among up. seen m among (sym (awake m) ∙ up))
             ∙ (λ i. record next {
               messages = s.messages ++ more;

@@ -51,7 +51,7 @@ stays n m s seen = by (n.0 == m.0) (are_linked n m s.links) seen
     by false false seen = absurd (false≢true seen)
 
 -- it monitors a node that is alive and that it sees
-monitors_it : (k n : Node) (s : SystemView) (v : LiveView) (d : DistView) → live_at s k ≡ Some v → k.0 ≢ n.0 → is_alive_at s n ≡ true
+pub monitors_it : (k n : Node) (s : SystemView) (v : LiveView) (d : DistView) → live_at s k ≡ Some v → k.0 ≢ n.0 → is_alive_at s n ≡ true
     → (k.0 == n.0 || are_linked k n s.links) ≡ true
     → connecting.monitor k n (with_node k (record v { dist = Some d }) s)
     ≡ with_node k (record v { dist = Some (outside.with_monitor n d) }) s

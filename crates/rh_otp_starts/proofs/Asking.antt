@@ -35,16 +35,15 @@ use Rattle.rh_otp_starts.proofs.Turns.{IsSaid, sends, Turn}
 abbrev pub it_asks : Here → Call → Envelope
 it_asks h c = record { from = process_at h role.Controller; to = process_at h role.DistAc; message = message.StartRequest c.app }
 
--- it says no more than an answer, or asks its dist_ac; and wherever that says that the application runs, it answers
+-- it says no more than an answer, or asks its dist_ac, and goes on: nobody else has asked
 pub data Asks (c : Call) (t u : TurnView) : Type 0 where
   says : Ends t.here c u → Asks c t u
-  asks : Turn t.here.node u (it_asks t.here c ∷ [])
-      → ((m : Node) → Ends t.here c (received (message.Reply c.app (reply_of.Started m)) (fresh (record t { state = u.state }))))
-      → Asks c t u
+  asks : (row : Starting) → Turn t.here.node u (it_asks t.here c ∷ []) → u.state ≡ asked_last c row t.state.start_req t.state.starting t.state
+      → t.state.is_ending ≡ false → has_row c.app t.state.start_req ≡ false → Asks c t u
 
 -- ---- it is told that the application runs elsewhere
 
-replied_at : (c : Call) (m : Node) (row : Starting) (rows : List (App × Option Process)) (starting : List (App × Starting)) (t : TurnView)
+pub replied_at : (c : Call) (m : Node) (row : Starting) (rows : List (App × Option Process)) (starting : List (App × Starting)) (t : TurnView)
     → t.state.is_ending ≡ false → has_row c.app rows ≡ false
     → Ends t.here c (received (message.Reply c.app (reply_of.Started m)) (fresh (record t { state = asked_last c row rows starting t.state })))
 unfolding received start_reply has_started
@@ -99,8 +98,8 @@ asks_start c restart t controlled = ended t.state.is_ending refl
     here false is not_ending nobody = absurd (false≢true is)
     here true is not_ending nobody =
         let e : Envelope = it_asks t.here c in
-        asks (record { said = All-cons (IsSaid t.here.node) (output.Send e) [] (sends e) (All-nil (IsSaid t.here.node)); sent = refl })
-        (λ m. replied_at c m row t.state.start_req t.state.starting t not_ending nobody)
+        asks row (record { said = All-cons (IsSaid t.here.node) (output.Send e) [] (sends e) (All-nil (IsSaid t.here.node)); sent = refl })
+        refl not_ending nobody
 
     lacks : (o : Option Dep) → t.state.is_ending ≡ false → has_row a t.state.start_req ≡ false
         → Asks c t (start_unless a restart p o (fresh t))

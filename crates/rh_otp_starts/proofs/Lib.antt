@@ -1,10 +1,13 @@
-mod Alone
-mod Falling
-mod Ending
-mod Turns
-mod Saying
-mod Start
-mod Requests
-mod Asking
-mod Elsewhere
-mod Rows
+pub mod Alone
+pub mod Falling
+pub mod Ending
+pub mod Turns
+pub mod Saying
+pub mod Start
+pub mod Parting
+pub mod Exits
+pub mod Requests
+pub mod Asking
+pub mod Deciding
+pub mod Elsewhere
+pub mod Rows

@@ -1,6 +1,7 @@
--- What a dist_ac does at a start request of its controller, where it finds the application running elsewhere: it has the lock of its node
--- for a moment, and tells the controller.
-use Rattle.std.proofs.Common.{◌≡◌, ◌⊎◌, ◌+◌, ◌++◌, ◌==◌, ◌&&◌, ℕ, Bool, true, false, not, cond, List, [], ◌∷◌, Option, Some, None, refl, sym, ap, ◌∙◌, inl, inr}
+-- What a dist_ac does at a start request of its controller, where it can tell at once what comes of it: it has the lock of its node for a
+-- moment, and answers the controller.
+use Rattle.std.proofs.Common.{◌≡◌, ◌⊎◌, ◌+◌, ◌++◌, ◌==◌, ◌&&◌, ℕ, Bool, true, false, not, cond, List, [], ◌∷◌, Option, Some, None, refl, sym, ap, subst, ◌∙◌, inl, inr}
+use Rattle.std.specs.Prelude.{All}
 use Rattle.std.proofs.lemmas.Bool.{eq-eqb}
 use Rattle.std.proofs.lemmas.Option.{none-some, same_Some}
 use Rattle.std.proofs.lemmas.List.{append-nil}
@@ -10,7 +11,7 @@ use Rattle.rh_model.specs.declared.node.App.{App}
 use Rattle.rh_model.specs.declared.node.Node.{Node}
 use Rattle.rh_otp_model.specs.declared.message.Message.{Message}
 use Rattle.rh_otp_model.specs.declared.message.Message.TheVariants as message
-use Rattle.rh_otp_model.specs.declared.message.Reply.TheVariants as reply_of
+use Rattle.rh_otp_model.specs.declared.message.Reply.{Reply}
 use Rattle.rh_otp_model.specs.declared.output.Envelope.{Envelope}
 use Rattle.rh_otp_model.specs.declared.output.Output.{Output}
 use Rattle.rh_otp_model.specs.declared.output.Output.TheVariants as output
@@ -23,7 +24,7 @@ use Rattle.rh_otp_model.specs.Processes.{process_at}
 use Rattle.rh_otp_dist.specs.declared.state.Stand.TheVariants as stand
 use Rattle.rh_otp_dist.specs.declared.state.Standing.{Standing}
 use Rattle.rh_otp_dist.specs.declared.state.Standing.TheVariants as standing
-use Rattle.rh_otp_dist.specs.Attempts.{settled, finish, runs_elsewhere}
+use Rattle.rh_otp_dist.specs.Attempts.{settled, runs_elsewhere}
 use Rattle.rh_otp_dist.specs.Choosing.{places_of, candidates_of, remote, runs_there, at_node, find_from, find_start_node, is_to_start, start_distributed, start_unless_local, start_appl, outside}
 use Rattle.rh_otp_dist.specs.Outside.{with_message}
 use Rattle.rh_otp_dist.specs.Received.{handle_next}
@@ -43,140 +44,149 @@ use Rattle.rh_otp_laws.proofs.Nodes.{node_written}
 use Rattle.rh_otp_crashes.specs.Crashes.{IsUnoccupied}
 use Rattle.rh_otp_crashes.specs.Failovers.{first_of, first_alone}
 use Rattle.rh_otp_crashes.proofs.Turning.{own_in, turn, idle, is_idle, mailed_to, works_on, written_twice}
-use Rattle.rh_otp_starts.specs.Elsewhere.{RunsElsewhere, asked_attempt}
+use Rattle.rh_otp_starts.specs.Elsewhere.{asked_attempt}
 
 -- ---- where it finds it
 
--- the walk along the list ends at the first node that may run it
+-- what it does where a node is the first that may run it
+abbrev pub at_first : AttemptView → Node → TurnView → TurnView
+at_first attempt m t = cond (runs_there t.state attempt.app m) (runs_elsewhere attempt m t) (is_to_start attempt m t)
+
+-- the walk along the list ends there
 found_by : (attempt : AttemptView) (m : Node) (candidates nodes : List Node) (b : Bool) (behind : Option Node) (t other : TurnView)
-    (rest : TurnView → TurnView) → (behind ≡ Some m → rest t ≡ runs_elsewhere attempt m t) → runs_there t.state attempt.app m ≡ true
+    (rest : TurnView → TurnView) → (behind ≡ Some m → rest t ≡ at_first attempt m t)
     → cond b None (first_alone candidates nodes behind) ≡ Some m
-    → cond b other (at_node rest attempt candidates nodes t) ≡ runs_elsewhere attempt m t
-found_by attempt m candidates nodes true behind t other rest goes_on there is = absurd (none-some m is)
-found_by attempt m candidates [] false behind t other rest goes_on there is = goes_on is
-found_by attempt m candidates (n ∷ nodes) false behind t other rest goes_on there is = at (is_among n candidates) is
+    → cond b other (at_node rest attempt candidates nodes t) ≡ at_first attempt m t
+found_by attempt m candidates nodes true behind t other rest goes_on is = absurd (none-some m is)
+found_by attempt m candidates [] false behind t other rest goes_on is = goes_on is
+found_by attempt m candidates (n ∷ nodes) false behind t other rest goes_on is = at (is_among n candidates) is
   where
-    at : (b : Bool) → cond b (Some n) behind ≡ Some m
-        → cond (not b) (rest t) (cond (runs_there t.state attempt.app n) (runs_elsewhere attempt n t) (is_to_start attempt n t))
-        ≡ runs_elsewhere attempt m t
-    at true is =
-        ap (λ (x : Node). cond (runs_there t.state attempt.app x) (runs_elsewhere attempt x t) (is_to_start attempt x t)) (same_Some n m is)
-        ∙ ap (λ (b : Bool). cond b (runs_elsewhere attempt m t) (is_to_start attempt m t)) there
+    at : (b : Bool) → cond b (Some n) behind ≡ Some m → cond (not b) (rest t) (at_first attempt n t) ≡ at_first attempt m t
+    at true is = ap (λ (x : Node). at_first attempt x t) (same_Some n m is)
     at false is = goes_on is
 
 finds : (attempt : AttemptView) (m : Node) (candidates : List Node) (k : ℕ) (places : List WrittenView) (t : TurnView)
-    → first_of candidates places ≡ Some m → runs_there t.state attempt.app m ≡ true
-    → find_from attempt candidates k places t ≡ runs_elsewhere attempt m t
-finds attempt m candidates k [] t is there = absurd (none-some m is)
-finds attempt m candidates k (w ∷ places) t is there =
+    → first_of candidates places ≡ Some m → find_from attempt candidates k places t ≡ at_first attempt m t
+finds attempt m candidates k [] t is = absurd (none-some m is)
+finds attempt m candidates k (w ∷ places) t is =
     found_by attempt m candidates w.nodes w.is_tuple (first_of candidates places) t _ (find_from attempt candidates (k + 1) places)
-    (λ further. finds attempt m candidates (k + 1) places t further there) there is
+    (λ further. finds attempt m candidates (k + 1) places t further) is
+
+-- where its own node may run it
+pub starts_first : (a : App) (m : Node) (t : TurnView) → is_among t.here.node (candidates_of t.own (asked_attempt t.state a)) ≡ true
+    → first_of (candidates_of t.own (asked_attempt t.state a)) (places_of t.own a) ≡ Some m
+    → start_distributed (asked_attempt t.state a) t ≡ at_first (asked_attempt t.state a) m t
+unfolding start_distributed find_start_node
+starts_first a m t among first =
+    let attempt : AttemptView = asked_attempt t.state a in
+    let candidates : List Node = candidates_of t.own attempt in
+    ap (λ (b : Bool). cond b (find_start_node attempt candidates 0 t) (outside attempt candidates (remote t.state a) t)) among
+    ∙ finds attempt m candidates 0 (places_of t.own a) t first
+
+-- where it may not
+pub starts_outside : (a : App) (t : TurnView) → is_among t.here.node (candidates_of t.own (asked_attempt t.state a)) ≡ false
+    → start_distributed (asked_attempt t.state a) t
+    ≡ outside (asked_attempt t.state a) (candidates_of t.own (asked_attempt t.state a)) (remote t.state a) t
+unfolding start_distributed
+starts_outside a t not_among =
+    let attempt : AttemptView = asked_attempt t.state a in
+    let candidates : List Node = candidates_of t.own attempt in
+    ap (λ (b : Bool). cond b (find_start_node attempt candidates 0 t) (outside attempt candidates (remote t.state a) t)) not_among
 
 -- ---- what it does
 
--- it tells its controller where the application runs
-abbrev pub its_reply : Here → App → Node → Envelope
-its_reply h a m = record {
-  from = process_at h role.DistAc;
-  to = process_at h role.Controller;
-  message = message.Reply a (reply_of.Started m);
-}
+-- it answers its controller so
+abbrev pub its_reply : Here → App → Reply → Envelope
+its_reply h a r = record { from = process_at h role.DistAc; to = process_at h role.Controller; message = message.Reply a r }
 
 -- and its node's lock is free again
 abbrev pub frees : Here → Output
 frees h = output.Free (Alone (process_at h role.DistAc)) (process_at h role.DistAc)
 
-abbrev pub told_elsewhere : App → Node → TurnView → TurnView
-told_elsewhere a m t = record t {
-  state = record (settled a (standing.Distributed m) t.state) { stand = stand.Idle };
-  out = (t.out ++ output.Send (its_reply t.here a m) ∷ []) ++ frees t.here ∷ [];
+-- the application stands so from now on
+abbrev pub told_so : App → Reply → Standing → TurnView → TurnView
+told_so a r standing t = record t {
+  state = record (settled a standing t.state) { stand = stand.Idle };
+  out = (t.out ++ output.Send (its_reply t.here a r) ∷ []) ++ frees t.here ∷ [];
 }
 
 -- it runs here, and nobody is told
 abbrev pub told_nobody : TurnView → TurnView
 told_nobody t = record t { state = record t.state { stand = stand.Idle }; out = t.out ++ frees t.here ∷ [] }
 
-starts_there : (a : App) (t : TurnView) (r : RunsElsewhere t.own t.here.node a t.state)
-    → start_distributed (asked_attempt t.state a) t ≡ told_elsewhere a r.at t
-unfolding start_distributed find_start_node runs_elsewhere finish
-starts_there a t r = by r.found
-  where
-    attempt : AttemptView
-    attempt = asked_attempt t.state a
-
-    candidates : List Node
-    candidates = candidates_of t.own attempt
-
-    by : ((is_among t.here.node candidates ≡ true) × (first_of candidates (places_of t.own a) ≡ Some r.at) × (runs_there t.state a r.at ≡ true))
-        ⊎ ((is_among t.here.node candidates ≡ false) × (remote t.state a ≡ Some r.at))
-        → start_distributed attempt t ≡ told_elsewhere a r.at t
-    by (inl (among, first, there)) =
-        ap (λ (b : Bool). cond b (find_start_node attempt candidates 0 t) (outside attempt candidates (remote t.state a) t)) among
-        ∙ finds attempt r.at candidates 0 (places_of t.own a) t first there
-    by (inr (not_among, known)) =
-        ap (λ (b : Bool). cond b (find_start_node attempt candidates 0 t) (outside attempt candidates (remote t.state a) t)) not_among
-        ∙ ap (λ (o : Option Node). outside attempt candidates o t) known
-
 -- with the lock of its node, where the node has a weight
 abbrev pub asking : ℕ → TurnView → TurnView
 asking w t = record t { weight = w; has_lock = true }
 
+-- It answers at once, by such a reply, whatever its node's weight and life are.
+pub record Decided (P : Reply → Type 0) (own : OwnView) (n : Node) (a : App) (d : DistView) : Type 0 where
+  pub answer : Reply
+  pub is_so : P answer
+  pub standing : Standing
+  pub starts : (c : ClusterView) (life w : ℕ) → start_distributed (asked_attempt d a) (asking w (turn c own n life d))
+      ≡ told_so a answer standing (asking w (turn c own n life d))
+
 -- which messages it has sent, and how it stands, at such a request
-pub record Requested (c : ClusterView) (own : OwnView) (n : Node) (life : ℕ) (a : App) (d : DistView) : Type 0 where
+pub record Requested (P : Reply → Type 0) (c : ClusterView) (own : OwnView) (n : Node) (life : ℕ) (a : App) (d : DistView) : Type 0 where
   pub over : TurnView
   pub closed : (w : ℕ) → mail.handled (message.StartRequest a) (asking w (turn c own n life d)) ≡ asking w over
-  pub sent : ((m : Node) × (over.out ≡ output.Send (its_reply (record { node = n; life = life }) a m) ∷ frees (record { node = n; life = life }) ∷ []))
+  pub sent : ((r : Reply) × P r
+      × (over.out ≡ output.Send (its_reply (record { node = n; life = life }) a r) ∷ frees (record { node = n; life = life }) ∷ []))
       ⊎ (over.out ≡ frees (record { node = n; life = life }) ∷ [])
   pub rest : IsUnoccupied over.state
+  pub takeovers : over.state.t_reqs ≡ d.t_reqs
+  pub known : over.state.known ≡ d.known
 
-requests : (c : ClusterView) (own : OwnView) (n : Node) (life : ℕ) (a : App) (d : DistView) → IsUnoccupied d
-    → RunsElsewhere own n a d → Requested c own n life a d
+-- it handles whatever comes next
+at_rest_so : (e d : DistView) → IsUnoccupied d → e.stand ≡ stand.Idle → e.mail ≡ [] → e.p_reqs ≡ d.p_reqs → e.parked ≡ d.parked
+    → IsUnoccupied e
+at_rest_so e d free is none permits parked = record {
+  stand = inl is;
+  mail = subst (λ (l : List Message). All (λ (x : Message). takes e.stand x ≡ false) l) (sym none)
+      (All-nil (λ (x : Message). takes e.stand x ≡ false));
+  permits = permits ∙ free.permits;
+  parked = parked ∙ free.parked;
+}
+
+requests : (P : Reply → Type 0) (c : ClusterView) (own : OwnView) (n : Node) (life : ℕ) (a : App) (d : DistView) → IsUnoccupied d
+    → Decided P own n a d → Requested P c own n life a d
 unfolding start_appl
-requests c own n life a d free r = by (standing_of d a) refl
+requests P c own n life a d free r = by (standing_of d a) refl
   where
     t : TurnView
     t = turn c own n life d
 
-    h : Here
-    h = record { node = n; life = life }
+    decided : TurnView
+    decided = told_so a r.answer r.standing t
 
-    there : (w : ℕ) → RunsElsewhere own n a (asking w t).state
-    there w = record { at = r.at; found = r.found }
-
-    elsewhere : (st : Standing) → standing_of d a ≡ st
+    by_list : (st : Standing) → standing_of d a ≡ st
         → ((w : ℕ) → start_unless_local (asked_attempt d a) st (asking w t) ≡ start_distributed (asked_attempt d a) (asking w t))
-        → Requested c own n life a d
-    elsewhere st is same = record {
-      over = told_elsewhere a r.at t;
+        → Requested P c own n life a d
+    by_list st is same = record {
+      over = decided;
       closed = λ w.
           ap (λ (x : Standing). start_unless_local (asked_attempt d a) x (asking w t)) is
-          ∙ same w ∙ starts_there a (asking w t) (there w);
-      sent = inl (r.at, refl);
-      rest = record {
-        stand = inl refl;
-        mail = All-nil (λ (x : Message). takes stand.Idle x ≡ false);
-        permits = free.permits;
-        parked = free.parked;
-      };
+          ∙ same w ∙ r.starts c life w;
+      sent = inl (r.answer, r.is_so, refl);
+      rest = at_rest_so decided.state d free refl refl refl refl;
+      takeovers = refl;
+      known = refl;
     }
 
-    by : (st : Standing) → standing_of d a ≡ st → Requested c own n life a d
+    by : (st : Standing) → standing_of d a ≡ st → Requested P c own n life a d
     by standing.Local is = record {
       over = told_nobody t;
       closed = λ w. ap (λ (x : Standing). start_unless_local (asked_attempt d a) x (asking w t)) is;
       sent = inr refl;
-      rest = record {
-        stand = inl refl;
-        mail = All-nil (λ (x : Message). takes stand.Idle x ≡ false);
-        permits = free.permits;
-        parked = free.parked;
-      };
+      rest = at_rest_so (told_nobody t).state d free refl refl refl refl;
+      takeovers = refl;
+      known = refl;
     }
-    by standing.Undefined is = elsewhere standing.Undefined is (λ w. refl)
-    by standing.RunWaiting is = elsewhere standing.RunWaiting is (λ w. refl)
-    by standing.Takeover is = elsewhere standing.Takeover is (λ w. refl)
-    by (standing.Failover m) is = elsewhere (standing.Failover m) is (λ w. refl)
-    by (standing.Distributed m) is = elsewhere (standing.Distributed m) is (λ w. refl)
+    by standing.Undefined is = by_list standing.Undefined is (λ w. refl)
+    by standing.RunWaiting is = by_list standing.RunWaiting is (λ w. refl)
+    by standing.Takeover is = by_list standing.Takeover is (λ w. refl)
+    by (standing.Failover m) is = by_list (standing.Failover m) is (λ w. refl)
+    by (standing.Distributed m) is = by_list (standing.Distributed m) is (λ w. refl)
 
 -- ---- carried out
 
@@ -193,7 +203,7 @@ unfolding handled_by handle_next
 handles c own n m w v d = refl
 
 -- it has the lock of its node
-abbrev its_lock : Node → ℕ → List Held
+abbrev pub its_lock : Node → ℕ → List Held
 its_lock n life =
     let p : Process = record { role = role.DistAc; node = n; life = life } in
     record { node = n; requester = Alone p; owner = p } ∷ []
@@ -221,7 +231,7 @@ works_locked n a s v d over there none closed =
     ∙ ap (λ (u : TurnView). working.behind n (record v { dist = Some u.state }, u.out) (locked w)) (closed weight)
     ∙ ap (all_carried_out n over.out) (written_twice (record s { locks = its_lock n v.life }) n w (record v { dist = Some over.state }))
 
-request_comes : (n : Node) (a : App) (s : SystemView) (v : LiveView) (d : DistView) (over : TurnView) → live_at s n ≡ Some v
+pub request_comes : (n : Node) (a : App) (s : SystemView) (v : LiveView) (d : DistView) (over : TurnView) → live_at s n ≡ Some v
     → v.dist ≡ Some d → IsUnoccupied d → d.stand ≡ stand.Idle → s.locks ≡ []
     → ((w : ℕ) → mail.handled (message.StartRequest a) (asking w (turn s.cluster (own_in s.files n) n v.life d)) ≡ asking w over)
     → working.mailed n (message.StartRequest a) s
@@ -240,23 +250,26 @@ freed_own n life =
     ∙ ap (λ (b : Bool). cond (not (b && b)) (its_lock n life) []) (eq-eqb life life refl)
 
 -- how the node stands behind it, and what is on its way then
-pub record RequestMet (n : Node) (a : App) (s : SystemView) (v : LiveView) : Type 0 where
+pub record RequestMet (P : Reply → Type 0) (n : Node) (a : App) (s : SystemView) (v : LiveView) (d : DistView) : Type 0 where
   pub next : DistView
   pub more : List Envelope
-  pub said : ((m : Node) × (more ≡ its_reply (record { node = n; life = v.life }) a m ∷ [])) ⊎ (more ≡ [])
+  pub said : ((r : Reply) × P r × (more ≡ its_reply (record { node = n; life = v.life }) a r ∷ [])) ⊎ (more ≡ [])
   pub comes : working.mailed n (message.StartRequest a) s
       ≡ record (with_node n (record v { dist = Some next }) s) { messages = s.messages ++ more }
   pub rest : IsUnoccupied next
+  pub takeovers : next.t_reqs ≡ d.t_reqs
+  pub known : next.known ≡ d.known
 
-pub meets_request : (n : Node) (a : App) (s : SystemView) (v : LiveView) (d : DistView) → live_at s n ≡ Some v → v.dist ≡ Some d
-    → IsUnoccupied d → d.stand ≡ stand.Idle → s.locks ≡ [] → RunsElsewhere (own_in s.files n) n a d → RequestMet n a s v
-meets_request n a s v d there has free is none elsewhere = by r.sent
+pub meets_request : (P : Reply → Type 0) (n : Node) (a : App) (s : SystemView) (v : LiveView) (d : DistView) → live_at s n ≡ Some v
+    → v.dist ≡ Some d → IsUnoccupied d → d.stand ≡ stand.Idle → s.locks ≡ [] → Decided P (own_in s.files n) n a d
+    → RequestMet P n a s v d
+meets_request P n a s v d there has free is none decided = by r.sent
   where
     h : Here
     h = record { node = n; life = v.life }
 
-    r : Requested s.cluster (own_in s.files n) n v.life a d
-    r = requests s.cluster (own_in s.files n) n v.life a d free elsewhere
+    r : Requested P s.cluster (own_in s.files n) n v.life a d
+    r = requests P s.cluster (own_in s.files n) n v.life a d free decided
 
     new : LiveView
     new = record v { dist = Some r.over.state }
@@ -268,15 +281,18 @@ meets_request n a s v d there has free is none elsewhere = by r.sent
     unlocked : freed (Alone (process_at h role.DistAc)) (process_at h role.DistAc) (its_lock n v.life) ≡ s.locks
     unlocked = freed_own n v.life ∙ sym none
 
-    by : ((m : Node) × (r.over.out ≡ output.Send (its_reply h a m) ∷ frees h ∷ [])) ⊎ (r.over.out ≡ frees h ∷ []) → RequestMet n a s v
-    by (inl (m, outs)) = record {
+    by : ((x : Reply) × P x × (r.over.out ≡ output.Send (its_reply h a x) ∷ frees h ∷ [])) ⊎ (r.over.out ≡ frees h ∷ [])
+        → RequestMet P n a s v d
+    by (inl (x, is_so, outs)) = record {
       next = r.over.state;
-      more = its_reply h a m ∷ [];
-      said = inl (m, refl);
+      more = its_reply h a x ∷ [];
+      said = inl (x, is_so, refl);
       comes = came
           ∙ ap (λ (l : List Output). all_carried_out n l (record (with_node n new s) { locks = its_lock n v.life })) outs
-          ∙ (λ i. record (with_node n new s) { messages = s.messages ++ its_reply h a m ∷ []; locks = unlocked i });
+          ∙ (λ i. record (with_node n new s) { messages = s.messages ++ its_reply h a x ∷ []; locks = unlocked i });
       rest = r.rest;
+      takeovers = r.takeovers;
+      known = r.known;
     }
     by (inr outs) = record {
       next = r.over.state;
@@ -286,4 +302,6 @@ meets_request n a s v d there has free is none elsewhere = by r.sent
           ∙ ap (λ (l : List Output). all_carried_out n l (record (with_node n new s) { locks = its_lock n v.life })) outs
           ∙ (λ i. record (with_node n new s) { messages = sym (append-nil s.messages) i; locks = unlocked i });
       rest = r.rest;
+      takeovers = r.takeovers;
+      known = r.known;
     }

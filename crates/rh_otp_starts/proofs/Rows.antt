@@ -1,7 +1,7 @@
--- Calls that the laws are of. Of two nodes the first one runs an application that is distributed, and one that isn't and is permanent; it was
--- also to start one that it forbids, and hasn't started another one. The second node knows where the distributed one runs, and was to start
--- the one that is forbidden alone.
-use Rattle.std.proofs.Common.{◌≡◌, ◌<◌, ℕ, zero, suc, true, false, List, [], ◌∷◌, Some, None, refl, sym, subst, inl, arith}
+-- Calls that the laws are of. Of two nodes the first one runs an application that is distributed, and one that isn't, both permanent; it was
+-- also to start one that it forbids, and hasn't started another one. The second node knows where the distributed one runs, and was to
+-- start the one that is forbidden alone.
+use Rattle.std.proofs.Common.{◌≡◌, ◌<◌, ◌==◌, ◌||◌, ℕ, zero, suc, true, false, List, [], ◌∷◌, Some, None, refl, sym, ap, subst, ◌∙◌, inl, arith}
 use Rattle.std.specs.Prelude.{All}
 use Rattle.std.proofs.lemmas.List.Elements.{All-nil, All-cons}
 use Rattle.rh_model.specs.ClusterView.{ClusterView, NodeView, app_numbered}
@@ -36,9 +36,10 @@ use Rattle.rh_otp_system.specs.Resting.{rested as system_rested, forgotten as sy
 use Rattle.rh_otp_system.specs.Sending.{told as system_told, after as system_after}
 use Rattle.rh_otp_system.specs.Working.{take_lock as system_take_lock, gone as system_gone, handled as system_handled, work as system_work, mailed as system_mailed}
 use Rattle.rh_otp_controller.specs.declared.state.Place.TheVariants as place_of
-use Rattle.rh_otp_dist.specs.State.{DistView}
+use Rattle.rh_otp_dist.specs.State.{DistView, is_among}
 use Rattle.rh_otp_net.specs.declared.locks.Held.{Held}
 use Rattle.rh_otp_net.specs.declared.order.Order.TheVariants.{FirstComes}
+use Rattle.rh_otp_net.specs.Links.{are_linked}
 use Rattle.rh_otp_node.specs.Live.{never_begun}
 use Rattle.rh_otp_system.specs.declared.cell.Cell.TheVariants as cell
 use Rattle.rh_otp_system.specs.Doing.{booted}
@@ -48,7 +49,7 @@ use Rattle.rh_otp_system.proofs.Moving.{settles}
 use Rattle.rh_otp_laws.specs.Acting.{IsReached, new}
 use Rattle.rh_otp_orders.specs.Orders.{is_call}
 use Rattle.rh_otp_crashes.specs.Crashes.{IsUnoccupied, AreAtRest, FailOverLater}
-use Rattle.rh_otp_stops.specs.Stops.{NoCallLocks}
+use Rattle.rh_otp_stops.specs.Stops.{CanEnd, NoCallLocks}
 use Rattle.rh_otp_stops.proofs.Rows.{n1, n2, d1, l1, file, no_net, quiet, dist_of, IsThere, NoMore, begins_at, is_it, at_rest, of_both}
 use Rattle.rh_otp_starts.specs.Elsewhere.{RunsElsewhere}
 use Rattle.rh_otp_starts.specs.Starts.{IsOverBefore}
@@ -78,7 +79,7 @@ cluster = record {
   node_names = (97 ∷ []) ∷ (98 ∷ []) ∷ [];
   app_names = (97 ∷ []) ∷ (98 ∷ []) ∷ (99 ∷ []) ∷ (100 ∷ []) ∷ [];
   platform_names = [];
-  nodes = node_of n2 ((d1, Temporary) ∷ (l1, Temporary) ∷ (l3, Permanent) ∷ []) ∷ node_of n1 ((l1, Temporary) ∷ []) ∷ [];
+  nodes = node_of n2 ((d1, Permanent) ∷ (l1, Temporary) ∷ (l3, Permanent) ∷ []) ∷ node_of n1 ((l1, Temporary) ∷ []) ∷ [];
   apps = record {
     deps = [];
     start_arg = None;
@@ -206,6 +207,33 @@ fatal : IsFatal both_up
 unfolding controller_start controller_stop controller_permit controller_top_ends controller_do_start controller_change controller_received controller_spawn_starter controller_reply_to_requester controller_has_started controller_start_reply dist_finish dist_runs_elsewhere dist_take_over dist_permit dist_get_nodes dist_start_here dist_is_to_start dist_find_start_node dist_start_distributed dist_start_appl dist_check_waiting dist_node_down dist_introduced_to dist_handle_next dist_del_t_reqs dist_run dist_answer_ends dist_not_run dist_stopped dist_new_node dist_answer_permits dist_app_started dist_app_stopped dist_weight_told dist_restart dist_new_permission net_to_connect node_controlled_by node_terminated_by node_handled_by node_introduced_by system_lock_call system_wait_for_lock system_behind_sync system_go_on_call system_call_received system_connect system_delivered system_slowed system_waited_for system_booted system_called system_fired_next system_ticked system_is_ticked system_down_told system_taken_down system_ended system_stopped system_join system_has_seen system_boot_next system_made system_rested system_forgotten system_told system_after system_take_lock system_gone system_handled system_work system_mailed
 fatal = record { unlisted = refl; runs = refl; fatal = refl }
 
+-- so would that of the distributed one, and its dist_ac can tell the second node of it
+record IsFatalToo (s : SystemView) : Type 0 where
+  listed : controls (own_at s n1) d1 ≡ true
+  runs : keyfind d1 (node_at s n1).controller.running ≡ Some place_of.Here
+  fatal : ends_with (keyfind d1 (node_at s n1).controller.started) false ≡ true
+  knows : is_among n2 (dist_of s n1).known ≡ true
+  takeovers : (dist_of s n1).t_reqs ≡ []
+  ends : (dist_of s n1).s_reqs ≡ []
+  sees : are_linked n1 n2 s.links ≡ true
+
+fatal_too : IsFatalToo both_up
+unfolding controller_start controller_stop controller_permit controller_top_ends controller_do_start controller_change controller_received controller_spawn_starter controller_reply_to_requester controller_has_started controller_start_reply dist_finish dist_runs_elsewhere dist_take_over dist_permit dist_get_nodes dist_start_here dist_is_to_start dist_find_start_node dist_start_distributed dist_start_appl dist_check_waiting dist_node_down dist_introduced_to dist_handle_next dist_del_t_reqs dist_run dist_answer_ends dist_not_run dist_stopped dist_new_node dist_answer_permits dist_app_started dist_app_stopped dist_weight_told dist_restart dist_new_permission net_to_connect node_controlled_by node_terminated_by node_handled_by node_introduced_by system_lock_call system_wait_for_lock system_behind_sync system_go_on_call system_call_received system_connect system_delivered system_slowed system_waited_for system_booted system_called system_fired_next system_ticked system_is_ticked system_down_told system_taken_down system_ended system_stopped system_join system_has_seen system_boot_next system_made system_rested system_forgotten system_told system_after system_take_lock system_gone system_handled system_work system_mailed
+fatal_too = record { listed = refl; runs = refl; fatal = refl; knows = refl; takeovers = refl; ends = refl; sees = refl }
+
+can_end : (s : SystemView) → IsThere n1 s → Waits s → IsFatalToo s → NoMore s → CanEnd n1 d1 s
+can_end s there so fatal none = record {
+  tells = λ is. record {
+    sees_all = record {
+      takeovers = λ d has. ap (λ (x : DistView). x.t_reqs) (sym (is_it s n1 d there has)) ∙ fatal.takeovers;
+      sees = λ d has m among alive.
+          of_both (λ (k : Node). (n1.0 == k.0 || are_linked n1 k s.links) ≡ true) s none refl fatal.sees m.0 alive;
+    };
+    ends = λ d has. ap (λ (x : DistView). x.s_reqs) (sym (is_it s n1 d there has)) ∙ fatal.ends;
+  };
+  locks = no_locks s so;
+}
+
 later : (k : ℕ) → All (λ (e : EntryView). 0 < e.timeout) (own_at both_up (record { 0 = k })).entries
 unfolding controller_start controller_stop controller_permit controller_top_ends controller_do_start controller_change controller_received controller_spawn_starter controller_reply_to_requester controller_has_started controller_start_reply dist_finish dist_runs_elsewhere dist_take_over dist_permit dist_get_nodes dist_start_here dist_is_to_start dist_find_start_node dist_start_distributed dist_start_appl dist_check_waiting dist_node_down dist_introduced_to dist_handle_next dist_del_t_reqs dist_run dist_answer_ends dist_not_run dist_stopped dist_new_node dist_answer_permits dist_app_started dist_app_stopped dist_weight_told dist_restart dist_new_permission net_to_connect node_controlled_by node_terminated_by node_handled_by node_introduced_by system_lock_call system_wait_for_lock system_behind_sync system_go_on_call system_call_received system_connect system_delivered system_slowed system_waited_for system_booted system_called system_fired_next system_ticked system_is_ticked system_down_told system_taken_down system_ended system_stopped system_join system_has_seen system_boot_next system_made system_rested system_forgotten system_told system_after system_take_lock system_gone system_handled system_work system_mailed
 later zero = All-cons (λ (e : EntryView). 0 < e.timeout) _ [] (omega arith) (All-nil (λ (e : EntryView). 0 < e.timeout))
@@ -213,7 +241,8 @@ later (suc zero) = All-cons (λ (e : EntryView). 0 < e.timeout) _ [] (omega arit
 later (suc (suc k)) = All-nil (λ (e : EntryView). 0 < e.timeout)
 
 -- There are such calls: starts of an application that doesn't run, and permits of one that waits for that, at the
--- first node; starts, at the second one, of the application that runs at the first; and exits that end the first node.
+-- first node; starts, at the second one, of the application that runs at the first; and exits that end the first node, of an application
+-- that is distributed and of one that isn't.
 record Row : Type 0 where
   is_reached : IsReached both_up
   is_at_rest : AreAtRest both_up
@@ -222,6 +251,8 @@ record Row : Type 0 where
   finds : Finds both_up
   finds_it : (d : DistView) → (node_at both_up n2).dist ≡ Some d → RunsElsewhere (own_at both_up n2) n2 d1 d
   fatal : IsFatal both_up
+  fatal_too : IsFatalToo both_up
+  can_end : CanEnd n1 d1 both_up
   later : FailOverLater both_up
 
 row : Row
@@ -233,5 +264,7 @@ row = record {
   finds = finds;
   finds_it = finds_it both_up second_there finds;
   fatal = fatal;
+  fatal_too = fatal_too;
+  can_end = can_end both_up first_there waits fatal_too no_more;
   later = λ n. later n.0;
 }

@@ -170,37 +170,31 @@ pub found_first : (a : App) (row : Starting) (starting : List (App × Starting))
 found_first a row starting =
     ap (λ (b : Bool). option_map (λ (r : App × Starting). r.1) (cond b (Some (a, row)) (find (is_of a) starting))) (same_app a)
 
+-- the start is over, whatever it came to
+pub reports_so : (c : Call) (row : Starting) (error : Option Dep) (rows : List (App × Option Process)) (starting : List (App × Starting))
+    (t : TurnView) → t.state.is_ending ≡ false → has_row c.app rows ≡ false
+    → received (message.ApplicationStarted c.app error) (fresh (record t { state = asked_last c row rows starting t.state }))
+    ≡ started_by c.app place_of.Here error (Some row)
+    (answered_first c (outcome_of error) (without_rows c.app ((c.app, Some (process_of c)) ∷ rows))
+    (fresh (record t { state = asked_last c row rows starting t.state })))
+unfolding received has_started
+reports_so c row error rows starting t not_ending nobody =
+    let a : App = c.app in
+    let first : TurnView = fresh (record t { state = asked_last c row rows starting t.state }) in
+    let told : TurnView = answered_first c (outcome_of error) (without_rows a ((a, Some (process_of c)) ∷ rows)) first in
+    ap (λ (b : Bool). cond b first (has_started a place_of.Here error first)) not_ending
+    ∙ ap (λ (u : TurnView). started_by a place_of.Here error (keyfind a u.state.starting) u)
+    (answers_first c (outcome_of error) row rows starting t nobody)
+    ∙ ap (λ (found : Option Starting). started_by a place_of.Here error found told) (found_first a row starting)
+
 reported : (c : Call) (row : Starting) (error : Option Dep) (rows : List (App × Option Process)) (starting : List (App × Starting))
     (t : TurnView) → controls t.own c.app ≡ false → t.state.is_ending ≡ false → has_row c.app rows ≡ false
     → Ends t.here c (received (message.ApplicationStarted c.app error)
     (fresh (record t { state = asked_last c row rows starting t.state })))
-unfolding received has_started
-reported c row error rows starting t local not_ending nobody = subst (Ends t.here c) (sym is) so
-  where
-    a : App
-    a = c.app
-
-    x : ControllerView
-    x = asked_last c row rows starting t.state
-
-    first : TurnView
-    first = fresh (record t { state = x })
-
-    left : List (App × Option Process)
-    left = without_rows a x.start_req
-
-    told : TurnView
-    told = answered_first c (outcome_of error) left first
-
-    is : received (message.ApplicationStarted a error) first ≡ started_by a place_of.Here error (Some row) told
-    is =
-        ap (λ (b : Bool). cond b first (has_started a place_of.Here error first)) not_ending
-        ∙ ap (λ (u : TurnView). started_by a place_of.Here error (keyfind a u.state.starting) u)
-        (answers_first c (outcome_of error) row rows starting t nobody)
-        ∙ ap (λ (found : Option Starting). started_by a place_of.Here error found told) (found_first a row starting)
-
-    so : Ends t.here c (started_by a place_of.Here error (Some row) told)
-    so = reported_by c row error left (record t { state = x }) local
+reported c row error rows starting t local not_ending nobody =
+    subst (Ends t.here c) (sym (reports_so c row error rows starting t not_ending nobody))
+    (reported_by c row error (without_rows c.app ((c.app, Some (process_of c)) ∷ rows))
+    (record t { state = asked_last c row rows starting t.state }) local)
 
 -- ---- it is started here
 

@@ -30,10 +30,10 @@ use Rattle.rh_otp_crashes.proofs.Peace.{here_in, without}
 use Rattle.rh_otp_stops.specs.Stops.{EndsAlike, NoCallLocks}
 use Rattle.rh_otp_stops.proofs.Saying.{its_answer}
 use Rattle.rh_otp_stops.proofs.Stop.{its_call, turn_at, asked, call_asks}
-use Rattle.rh_otp_starts.specs.Starts.{IsOverBefore, StartsEndAlike, PermitsEndAlike, FatalExitsEndAlike}
+use Rattle.rh_otp_starts.specs.Starts.{IsOverBefore, StartsEndAlike, PermitsEndAlike}
 use Rattle.rh_otp_starts.proofs.Alone.{Waits, first_orderly, lost, answered}
 use Rattle.rh_otp_starts.proofs.Turns.{Turn, Behind, controller_of, quiet_orderly, takes_turn}
-use Rattle.rh_otp_starts.proofs.Saying.{Ends, Goes, IsLast, none, answer, ends, starts, it_started, goes_start, goes_permit, goes_exit}
+use Rattle.rh_otp_starts.proofs.Saying.{Ends, Goes, IsLast, none, answer, ends, starts, it_started, goes_start, goes_permit}
 
 -- ---- the last message
 
@@ -63,7 +63,7 @@ told_orderly {lives} {c} from m s f over = first_orderly e s f (by (cases_Bool (
     by (inr dead) = quiet_orderly _ (lost e.to m s f dead)
 
 -- the call is all that is on its way
-asked_orderly : {lives : Node → ℕ} {c : Call} (s : SystemView) → Waits lives c true (its_call c ∷ []) s
+pub asked_orderly : {lives : Node → ℕ} {c : Call} (s : SystemView) → Waits lives c true (its_call c ∷ []) s
     → Goes c (turn_at s c.node) (received (message_of c) (turn_at s c.node))
     → IsOrderly s
 asked_orderly {lives} {c} s f goes = first_orderly e s f (by (cases_Bool (is_alive_at s c.node)) goes)
@@ -162,9 +162,3 @@ permits_alike s n a reached rest locks soon local nobody =
     let c : Call = call_of (ask.Permit true) n a s in
     command_alike (ask.Permit true) s n a refl reached rest locks (over_before s soon)
     (λ answers f. asked_orderly (asked_so answers c s) f (goes_permit c (turn_at s n) local nobody))
-
-pub fatal_exits_alike : FatalExitsEndAlike
-fatal_exits_alike s n a is_normal reached rest locks local timed =
-    let c : Call = call_of (ask.Exit is_normal) n a s in
-    command_alike (ask.Exit is_normal) s n a refl reached rest locks (λ soon. timed)
-    (λ answers f. asked_orderly (asked_so answers c s) f (goes_exit c is_normal (turn_at s n) local))

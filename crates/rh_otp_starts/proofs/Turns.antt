@@ -147,7 +147,10 @@ pub record Behind (lives : Node → ℕ) (c : Call) (u : TurnView) (l : List Env
   pub turn : turn_at t c.node ≡ record (turn_at s c.node) { state = u.state }
   pub dist : (node_at t c.node).dist ≡ (node_at s c.node).dist
   pub files : t.files ≡ s.files
+  pub links : t.links ≡ s.links
   pub locks : t.locks ≡ s.locks
+  pub calls : t.calls ≡ s.calls
+  pub awake : (n : Node) → is_alive_at t n ≡ is_alive_at s n
 
 pub takes_turn : {lives : Node → ℕ} {c : Call} {l more : List Envelope} (life : ℕ) (m : Message) (s : SystemView)
     → Waits lives c true l s → lives c.node ≡ life → is_alive_at s c.node ≡ true
@@ -163,7 +166,10 @@ takes_turn {lives} {c} {l} {more} life m s f same alive turn = record {
       ∙ (λ i. record (turn_at s n) { here = record { node = n; life = done.life i }; state = done.controller i });
   dist = ap (λ (x : SystemView). (node_at x n).dist) is ∙ ap (λ (v : LiveView). v.dist) (node_written q n old done.new there) ∙ done.dist;
   files = ap (λ (x : SystemView). x.files) is;
+  links = ap (λ (x : SystemView). x.links) is;
   locks = ap (λ (x : SystemView). x.locks) is;
+  calls = ap (λ (x : SystemView). x.calls) is;
+  awake = λ k. ap (λ (x : SystemView). is_alive_at x k) is ∙ alive_still q k writes;
 }
   where
     n : Node

@@ -11,7 +11,7 @@ use Rattle.rh_otp_system.specs.Doing.{called}
 use Rattle.rh_otp_system.specs.State.{SystemView, node_at, own_at}
 use Rattle.rh_otp_laws.specs.Acting.{IsReached}
 use Rattle.rh_otp_crashes.specs.Crashes.{AreAtRest, FailOverLater}
-use Rattle.rh_otp_stops.specs.Stops.{EndsAlike, NoCallLocks}
+use Rattle.rh_otp_stops.specs.Stops.{CanEnd, EndsAlike, NoCallLocks}
 
 -- The command doesn't wait for nodes that end by themselves, some time later (ours; only boots and exits do).
 abbrev pub IsOverBefore : SystemView → Type 0
@@ -29,8 +29,8 @@ abbrev pub PermitsEndAlike : Type 0
 PermitsEndAlike = (s : SystemView) (n : Node) (a : App) → IsReached s → AreAtRest s → NoCallLocks s → IsOverBefore s
     → controls (own_at s n) a ≡ false → has_row a (node_at s n).controller.start_req ≡ false → EndsAlike (called (ask.Permit true) n a s)
 
--- The end of such an application's top process ends alike, whether it ends its node or not, by the restart type (application(3),
--- application:start/2). An application that is lost with the node is started elsewhere after some time.
+-- The end of an application's top process ends alike, of any application, whether it ends its node or not, by the restart type
+-- (application(3), application:start/2). An application that is lost with the node is started elsewhere after some time.
 abbrev pub FatalExitsEndAlike : Type 0
-FatalExitsEndAlike = (s : SystemView) (n : Node) (a : App) (is_normal : Bool) → IsReached s → AreAtRest s → NoCallLocks s
-    → controls (own_at s n) a ≡ false → FailOverLater s → EndsAlike (called (ask.Exit is_normal) n a s)
+FatalExitsEndAlike = (s : SystemView) (n : Node) (a : App) (is_normal : Bool) → IsReached s → AreAtRest s → CanEnd n a s
+    → FailOverLater s → EndsAlike (called (ask.Exit is_normal) n a s)

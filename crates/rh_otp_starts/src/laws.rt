@@ -29,9 +29,9 @@ pub fn starts_elsewhere_end_alike()
 
 /// Where live nodes are at rest, no call is open and none has a lock of `global`, all that comes of the end of an application's top process
 /// is alike, in whatever order its messages arrive, also where that ends the node, by the application's restart type: the answer to the
-/// operator, which comes before the node ends, and all that other nodes do at its end. The node's own `distributed` hasn't got the
-/// application, and no `distributed` entry of any node has a timeout of 0. Exits of distributed applications that end their node aren't
-/// covered.
+/// operator and what other nodes are told of the application, which come before the node ends, and all that other nodes do at its end. No
+/// `distributed` entry of any node has a timeout of 0. Where the application is one of the node's own `distributed`, nobody waits at the
+/// node's dist_ac for a takeover or for the end of an application, and the node sees all those that are alive and of which it knows.
 pub fn fatal_exits_end_alike()
     ensures { FatalExitsEndAlike }
 {}

@@ -1,6 +1,6 @@
 -- A call that waits for its controller, or was answered, and what an answer makes of it.
 use Rattle.std.proofs.Common.{◌≡◌, ◌++◌, ◌+◌, ◌==◌, ◌&&◌, ℕ, zero, suc, Bool, true, false, not, cond, nat_lt, List, [], ◌∷◌, slice_get, Option, Some, None, refl, sym, ap, subst, ◌∙◌}
-use Rattle.std.specs.Prelude.{All}
+use Rattle.std.specs.Prelude.{All, position}
 use Rattle.std.proofs.lemmas.Bool.{eq-eqb, false≢true}
 use Rattle.std.proofs.lemmas.List.Elements.{All-head, All-tail}
 use Rattle.std.proofs.lemmas.Option.{none-some, same_Some}
@@ -91,20 +91,29 @@ not_asked true true false is t u = refl
 not_asked true false k is t u = refl
 not_asked false b k is t u = refl
 
-pub answered_so : (c : Call) (w : Stage) (o : Outcome) (s : SystemView) → s.calls ≡ at_stage c w ∷ [] → NoneOfCalls s.locks
-    → is_known o ≡ false → is_alive_at s c.node ≡ true → (node_at s c.node).life ≡ c.life
-    → arrived (process_of c) (message.Answer o) s ≡ answered_in c o s
+-- where it is the one that there is, it stands first
+pub found_alone : (c : Call) (s : SystemView) → s.calls ≡ c ∷ [] → call_place c.number s ≡ Some 0
+found_alone c s calls =
+    ap (λ (l : List Call). position (λ (call : Call). call.number == c.number) l) calls
+    ∙ ap (λ (b : Bool). cond (nat_lt (cond (not b) (1 + 0) 0) 1) (Some (cond (not b) (1 + 0) 0)) None) (eq-eqb c.number c.number refl)
+
+-- its lock is free, if it has one
+pub answered_free : (c : Call) (w : Stage) (o : Outcome) (s : SystemView) → s.calls ≡ at_stage c w ∷ [] → is_known o ≡ false
+    → is_alive_at s c.node ≡ true → (node_at s c.node).life ≡ c.life
+    → arrived (process_of c) (message.Answer o) s
+    ≡ record (answered_in c o s) { locks = freed (Alone (process_of c)) (process_of c) s.locks }
 unfolding call_received told
-answered_so c w o s calls locks known alive life =
+answered_free c w o s calls known alive life =
     arrives_alive (process_of c) (message.Answer o) s alive life
     ∙ (λ i. call_received c.number (message.Answer o) (record s { calls = calls i }))
-    ∙ ap (λ (place : Option ℕ). call_received_at place (message.Answer o) one) found
+    ∙ ap (λ (place : Option ℕ). call_received_at place (message.Answer o) one) (found_alone (at_stage c w) one refl)
     ∙ not_asked (is_first w) (is_permit c.ask) (is_known o) known _ (done_with 0 (at_stage c w) o one)
-    ∙ (λ i. record (answered_in c o s) { locks = not_freed c s.locks locks i })
   where
     one : SystemView
     one = record s { calls = at_stage c w ∷ [] }
 
-    found : call_place c.number one ≡ Some 0
-    found =
-        ap (λ (b : Bool). cond (nat_lt (cond (not b) (1 + 0) 0) 1) (Some (cond (not b) (1 + 0) 0)) None) (eq-eqb c.number c.number refl)
+pub answered_so : (c : Call) (w : Stage) (o : Outcome) (s : SystemView) → s.calls ≡ at_stage c w ∷ [] → NoneOfCalls s.locks
+    → is_known o ≡ false → is_alive_at s c.node ≡ true → (node_at s c.node).life ≡ c.life
+    → arrived (process_of c) (message.Answer o) s ≡ answered_in c o s
+answered_so c w o s calls locks known alive life =
+    answered_free c w o s calls known alive life ∙ (λ i. record (answered_in c o s) { locks = not_freed c s.locks locks i })

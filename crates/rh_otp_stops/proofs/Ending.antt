@@ -128,13 +128,16 @@ varied s messages calls events = record s { messages = messages; calls = calls; 
 abbrev pub with_dist : Node → Option DistView → SystemView → List Envelope → List Call → List Event → SystemView
 with_dist n o s messages calls events = with_node n (record (node_at s n) { dist = o }) (varied s messages calls events)
 
--- what the node's dist_ac does where it is told of the end, whatever else has happened: how it stands then, and what it has sent
+-- whatever else has happened, the message comes to this at the node's dist_ac: how it stands then, and what it has sent
+abbrev pub ComesTo : Node → Message → Option DistView → List Envelope → SystemView → Type 0
+ComesTo n x next more s = (l : List Envelope) (calls : List Call) (events : List Event)
+    → mailed n x (varied s l calls events) ≡ with_dist n next s (l ++ more) calls events
+
+-- what the node's dist_ac does where it is told of the end
 pub record Ended (lives : Node → ℕ) (c : Call) (told : Bool) (s : SystemView) : Type 0 where
   pub next : Option DistView
   pub more : List Envelope
-  pub comes : (l : List Envelope) (calls : List Call) (events : List Event)
-      → mailed c.node (message.Stopped c.app) (varied s l calls events)
-      ≡ with_dist c.node next s (l ++ more) calls events
+  pub comes : ComesTo c.node (message.Stopped c.app) next more s
   pub rest : (d : DistView) → next ≡ Some d → IsUnoccupied d
   pub kinds : All (IsNews lives c told) more
   pub knows : (d : DistView) → next ≡ Some d → Knows (node_at s c.node).dist d

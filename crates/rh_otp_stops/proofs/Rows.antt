@@ -137,7 +137,7 @@ quiet s = settled 1000 FirstComes s
 abbrev one_up : SystemView
 one_up = quiet (booted n1 none_begun)
 
-abbrev both_up : SystemView
+abbrev pub both_up : SystemView
 both_up = quiet (booted n2 one_up)
 
 -- ---- what the prover computes of it
@@ -173,11 +173,11 @@ record Runs (s : SystemView) : Type 0 where
 abbrev pub NoMore : SystemView → Type 0
 NoMore s = (k : ℕ) → is_alive_at s (record { 0 = suc (suc k) }) ≡ false
 
-first_there : IsThere n1 both_up
+pub first_there : IsThere n1 both_up
 unfolding controller_start controller_stop controller_permit controller_top_ends controller_do_start controller_change controller_received controller_spawn_starter controller_reply_to_requester controller_has_started controller_start_reply dist_finish dist_runs_elsewhere dist_take_over dist_permit dist_get_nodes dist_start_here dist_is_to_start dist_find_start_node dist_start_distributed dist_start_appl dist_check_waiting dist_node_down dist_introduced_to dist_handle_next dist_del_t_reqs dist_run dist_answer_ends dist_not_run dist_stopped dist_new_node dist_answer_permits dist_app_started dist_app_stopped dist_weight_told dist_restart dist_new_permission net_to_connect node_controlled_by node_terminated_by node_handled_by node_introduced_by system_lock_call system_wait_for_lock system_behind_sync system_go_on_call system_call_received system_connect system_delivered system_slowed system_waited_for system_booted system_called system_fired_next system_ticked system_is_ticked system_down_told system_taken_down system_ended system_stopped system_join system_has_seen system_boot_next system_made system_rested system_forgotten system_told system_after system_take_lock system_gone system_handled system_work system_mailed
 first_there = record { alive = refl; has = refl; takes_all = refl; mail = refl; permits = refl; parked = refl }
 
-second_there : IsThere n2 both_up
+pub second_there : IsThere n2 both_up
 unfolding controller_start controller_stop controller_permit controller_top_ends controller_do_start controller_change controller_received controller_spawn_starter controller_reply_to_requester controller_has_started controller_start_reply dist_finish dist_runs_elsewhere dist_take_over dist_permit dist_get_nodes dist_start_here dist_is_to_start dist_find_start_node dist_start_distributed dist_start_appl dist_check_waiting dist_node_down dist_introduced_to dist_handle_next dist_del_t_reqs dist_run dist_answer_ends dist_not_run dist_stopped dist_new_node dist_answer_permits dist_app_started dist_app_stopped dist_weight_told dist_restart dist_new_permission net_to_connect node_controlled_by node_terminated_by node_handled_by node_introduced_by system_lock_call system_wait_for_lock system_behind_sync system_go_on_call system_call_received system_connect system_delivered system_slowed system_waited_for system_booted system_called system_fired_next system_ticked system_is_ticked system_down_told system_taken_down system_ended system_stopped system_join system_has_seen system_boot_next system_made system_rested system_forgotten system_told system_after system_take_lock system_gone system_handled system_work system_mailed
 second_there = record { alive = refl; has = refl; takes_all = refl; mail = refl; permits = refl; parked = refl }
 
@@ -198,7 +198,7 @@ runs = record {
   unlisted = refl;
 }
 
-no_more : NoMore both_up
+pub no_more : NoMore both_up
 unfolding controller_start controller_stop controller_permit controller_top_ends controller_do_start controller_change controller_received controller_spawn_starter controller_reply_to_requester controller_has_started controller_start_reply dist_finish dist_runs_elsewhere dist_take_over dist_permit dist_get_nodes dist_start_here dist_is_to_start dist_find_start_node dist_start_distributed dist_start_appl dist_check_waiting dist_node_down dist_introduced_to dist_handle_next dist_del_t_reqs dist_run dist_answer_ends dist_not_run dist_stopped dist_new_node dist_answer_permits dist_app_started dist_app_stopped dist_weight_told dist_restart dist_new_permission net_to_connect node_controlled_by node_terminated_by node_handled_by node_introduced_by system_lock_call system_wait_for_lock system_behind_sync system_go_on_call system_call_received system_connect system_delivered system_slowed system_waited_for system_booted system_called system_fired_next system_ticked system_is_ticked system_down_told system_taken_down system_ended system_stopped system_join system_has_seen system_boot_next system_made system_rested system_forgotten system_told system_after system_take_lock system_gone system_handled system_work system_mailed
 no_more zero = refl
 no_more (suc k) = refl
@@ -285,9 +285,9 @@ can_end s first so none = record {
 
 -- There are such calls: stops and exits of an application that runs there and of which another node is told, and forbids of one that isn't
 -- distributed and runs there.
-record Row : Type 0 where
-  is_reached : IsReached both_up
-  is_at_rest : AreAtRest both_up
+pub record Row : Type 0 where
+  pub is_reached : IsReached both_up
+  pub is_at_rest : AreAtRest both_up
   can_end : CanEnd n1 d1 both_up
   keeps : KeepsNode d1 false (node_at both_up n1).controller
   listed : controls (own_at both_up n1) d1 ≡ true
@@ -296,7 +296,7 @@ record Row : Type 0 where
   runs_alone : keyfind l1 (node_at both_up n1).controller.running ≡ Some place_of.Here
   unlisted : controls (own_at both_up n1) l1 ≡ false
 
-row : Row
+pub row : Row
 row = record {
   is_reached = both_reached;
   is_at_rest = are_at_rest both_up first_there second_there runs no_more ((settles 1000 FirstComes (booted n2 one_up)).1 is_quiet);

@@ -127,7 +127,7 @@ pub ended_at : {lives : Node → ℕ} {c : Call} {told : Bool} (s : SystemView) 
 ended_at {c = c} s f is alive =
     ended s f.peace.same_lives alive (λ d has. f.peace.dists c.node d alive has) (f.knows is) (f.sees is)
 
-ended_acts : {lives : Node → ℕ} {c : Call} {told : Bool} (s : SystemView) (left : List Envelope) → is_alive_at s c.node ≡ true
+unfoldable pub ended_acts : {lives : Node → ℕ} {c : Call} {told : Bool} (s : SystemView) (left : List Envelope) → is_alive_at s c.node ≡ true
     → (e : Ended lives c told s)
     → Acted AtEase (IsNews lives c told) c.node (without s left) (mailed c.node (message.Stopped c.app) (without s left))
 ended_acts {c = c} s left alive e = record {
@@ -152,11 +152,11 @@ ended_acts {c = c} s left alive e = record {
 }
 
 -- another one's is told
-told_acts : {lives : Node → ℕ} {c : Call} {told : Bool} (m : Node) (x : Message) (s : SystemView)
+pub told_acts : {K : Envelope → Type 0} {lives : Node → ℕ} (m : Node) (x : Message) (s : SystemView)
     → ((k : Node) → (node_at s k).life ≡ lives k)
-    → is_alive_at s m ≡ true → Turned (IsNews lives c told) s.cluster s.files m (lives m) x (node_at s m).dist
-    → Acted AtEase (IsNews lives c told) m s (mailed m x s)
-told_acts {lives} {c} {told} m x s same_lives alive d =
+    → is_alive_at s m ≡ true → Turned K s.cluster s.files m (lives m) x (node_at s m).dist
+    → Acted AtEase K m s (mailed m x s)
+told_acts {K} {lives} m x s same_lives alive d =
     let old : LiveView = node_at s m in
     record {
       old = old;

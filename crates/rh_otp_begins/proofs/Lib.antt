@@ -1,0 +1,7 @@
+mod Nowhere
+mod Left
+mod Hearing
+mod Running
+mod Meeting
+mod Here
+mod Rows

@@ -1,0 +1,3 @@
+pub mod Nowhere
+pub mod Waiting
+pub mod Here

@@ -1,0 +1,10 @@
+//! Starts of distributed applications by an operator of live nodes of OTP 25, behind which the order of messages makes no difference.
+//!
+//! A law is a function without a body, whose contract is the law ([`starts_here_end_alike`], [`starts_left_end_alike`],
+//! [`starts_nowhere_end_alike`]); its statement stands in `specs/`. No program stands on it. Each shows of a whole command that it is
+//! orderly, as the laws of `rh_otp_orders` ask for it.
+#![tactic(auto)]
+
+mod laws;
+
+pub use laws::{starts_here_end_alike, starts_left_end_alike, starts_nowhere_end_alike};

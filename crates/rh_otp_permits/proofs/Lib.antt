@@ -1,0 +1,5 @@
+mod Noting
+mod Crossing
+mod Asking
+mod Permit
+mod Rows
