@@ -242,7 +242,7 @@ def is_start_nowhere(cluster: ClusterFile, command: str, before: Lines, answer: 
 
 def is_permit_alone(cluster: ClusterFile, command: str, before: Lines) -> bool:
     """A distributed application is permitted, or forbidden, where nothing hangs and that changes nothing else: it isn't started at the
-    node; or it is permitted, and runs there; or it is forbidden, and neither runs there nor is lost."""
+    node; or it is permitted, and runs there; or it is forbidden, and neither runs there nor is lost. Whatever the answer is."""
     word, *rest = words_of(command)
     if word != "permit" or rest[1] not in cluster.entries or hangs(before):
         return False

@@ -33,7 +33,7 @@ use Rattle.rh_agreement.specs.Telling.{GoTogether}
 use Rattle.rh_agreement.specs.Laws.{IsAnsweredAlike, HasRoom}
 use Rattle.rh_agreement.specs.Resting.{AreBothAtRest, held}
 
--- does it need this application?
+-- is it this application that is needed?
 abbrev pub is_dep : App → Dep → Bool
 is_dep a (Listed b) = a.0 == b.0
 is_dep a (Platform p) = false

@@ -4,8 +4,9 @@ ghost use Rattle.rh_agreement_calls.specs.Calm.{CalmCallsAreAnsweredAlike};
 ghost use Rattle.rh_agreement_calls.specs.Starts.{StartsAreAnsweredAlike};
 ghost use Rattle.rh_agreement_calls.specs.Stops.{StopsAreAnsweredAlike, ForbidsAreAnsweredAlike, ExitsAreAnsweredAlike};
 
-/// Where both are at rest, a stop of an application that isn't distributed and runs at the node is answered by both alike, by `ok` and its
-/// stop alone, and leads to what is told alike; and both are at rest again.
+/// Where both are at rest, and have room for a step, a stop of an application that isn't distributed and runs at the node is answered by
+/// both alike, by `ok` and its stop alone, and leads to what is told alike; and both are at rest again. The live node isn't on its way to
+/// its end.
 pub fn stops_are_answered_alike()
     ensures { StopsAreAnsweredAlike }
 {}
@@ -28,7 +29,7 @@ pub fn starts_are_answered_alike()
 {}
 
 /// However many of these calls, of crashes and ticks of nodes at rest, and of steps back and forth come one after the other, from where
-/// both are at rest, are answered alike.
+/// both are at rest, now and behind each number of steps, are answered alike; each meets what its law asks where it has its turn.
 pub fn calm_calls_are_answered_alike()
     ensures { CalmCallsAreAnsweredAlike }
 {}

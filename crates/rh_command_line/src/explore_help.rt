@@ -91,8 +91,8 @@ events. It tells
                              but behind all lists before this one; the report
                              of live nodes stands behind them
   unfinished                 the last line, where an `ask` hasn't failed and
-                             there are more lists than `--states` says, or
-                             longer ones than 255 events
+                             as many lists were tried as `--states` says, or
+                             `steps` allows longer ones than 255 events
 
 No list is tried once each `ask` has failed. `--pick` is the order in which
 messages are taken, as in `rehearse run --help`. `--workers` takes no other

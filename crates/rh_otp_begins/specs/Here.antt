@@ -24,7 +24,7 @@ pub record IsChosen (own : OwnView) (n : Node) (a : App) (d : DistView) : Type 0
   pub not_yet : runs_there d a n ≡ false
 
 -- The node's dist_ac, if it takes whatever comes, chooses its own node. Nobody waits at the node for a takeover, and it sees all those that
--- are alive and of which its dist_ac knows.
+-- are alive and of which its dist_ac knows (ours).
 pub record StartsHere (n : Node) (a : App) (s : SystemView) : Type 0 where
   pub chooses : (d : DistView) → (node_at s n).dist ≡ Some d → d.stand ≡ stand.Idle → IsChosen (own_at s n) n a d
   pub sees_all : SeesAll n s

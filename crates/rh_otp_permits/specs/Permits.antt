@@ -20,19 +20,20 @@ use Rattle.rh_otp_crashes.specs.Crashes.{AreAtRest}
 use Rattle.rh_otp_stops.specs.Stops.{EndsAlike}
 use Rattle.rh_otp_starts.specs.Starts.{IsOverBefore}
 
--- is the application started at the node, or being started, as its controller knows?
+-- is the application started at the node, or being started, as its controller knows? (ours)
 abbrev pub is_begun : App → ControllerView → Bool
 is_begun a c = has_row a c.started || has_row a c.starting
 
--- Only the permission changes: the application isn't started at the node; or it is permitted, and runs there; or it is forbidden, and runs
--- elsewhere, or nowhere, as the node's dist_ac knows. Where it is forbidden it doesn't run there (dist_ac, permit/6).
+-- Only the permission changes: the application is neither started nor being started at the node; or it is permitted, and runs there; or it
+-- is forbidden, and the node's dist_ac knows it to run at another node, or nothing of it. Where it is forbidden it doesn't run there
+-- (dist_ac, permit/6).
 pub record ChangesNothing (allow : Bool) (a : App) (c : ControllerView) (d : DistView) : Type 0 where
   pub quiet : (is_begun a c ≡ false) ⊎ ((allow ≡ true) × (is_local (standing_of d a) ≡ true))
       ⊎ ((allow ≡ false) × (is_away (standing_of d a) ≡ true))
   pub not_here : (not allow && is_local (standing_of d a)) ≡ false
 
 -- The node's dist_ac has synchronised with the others, only the permission changes at it, if it takes whatever comes, and the node sees all
--- those of the application's list that are alive.
+-- those of the application's list that are alive (ours).
 pub record NotesAlone (n : Node) (a : App) (allow : Bool) (s : SystemView) : Type 0 where
   pub synchronised : is_synchronised_at n s ≡ true
   pub notes : (d : DistView) → (node_at s n).dist ≡ Some d → d.stand ≡ stand.Idle → ChangesNothing allow a (node_at s n).controller d

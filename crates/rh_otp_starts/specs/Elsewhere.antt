@@ -18,11 +18,11 @@ use Rattle.rh_otp_crashes.specs.Failovers.{first_of}
 use Rattle.rh_otp_stops.specs.Stops.{EndsAlike}
 use Rattle.rh_otp_starts.specs.Starts.{IsOverBefore}
 
--- the start of an application for which the controller asks, with the nodes that may run it
+-- the start of an application for which the controller asks, with the nodes that may run it (ours)
 abbrev pub asked_attempt : DistView → App → AttemptView
 asked_attempt d a = record { app = a; asked_by = asked.Controller; permitted = permitted d a; permit = None }
 
--- the nodes of the list that may run it
+-- the nodes of the list that may run it (ours)
 abbrev pub candidates_at : OwnView → App → DistView → List Node
 candidates_at own a d = candidates_of own (asked_attempt d a)
 

@@ -21,8 +21,8 @@ pub fn permits_end_alike()
 
 /// So it is of a start of any application, distributed or not, where nobody has a lock of `global` and the node's dist_ac, if it takes
 /// whatever comes, knows that the application runs at another node: at the first of the list that may run it, with no tuple before that
-/// one, where the node itself may run it, else at any. Then it runs there on, and the start is answered. Not covered are starts by which a
-/// distributed application starts, or moves, or for which its node waits for another one.
+/// one, where the node itself may run it, else at any. Not covered are starts by which a distributed application starts, or moves, or for
+/// which its node waits for another one.
 pub fn starts_elsewhere_end_alike()
     ensures { StartsElsewhereEndAlike }
 {}
