@@ -12,6 +12,7 @@ The seed is fixed, so that each run makes the same searches. That these reach al
 """
 import collections
 import json
+import os
 import random
 from collections.abc import Iterable, Iterator, Sequence
 from dataclasses import dataclass, field
@@ -25,7 +26,7 @@ from live_rules import Model, in_parts, report_of
 from random_live import TYPES, Cluster, Spread, complete_lists, incomplete_lists, spread_of
 from rehearse_tools.otp25.cluster import cluster_of
 from rehearse_tools.otp25.rehearsal import Rehearsal
-from support import fault_of, run
+from support import TOP, fault_of, read, run
 
 # Random searches beside the model, and small ones in other orders of messages beside runs; how many are taken at once.
 SEARCHES, AT_ONCE = 300, 20
@@ -589,6 +590,13 @@ def by_the_manual(program: str, numbers: Iterable[int]) -> Iterator[Test]:
         yield f"random search {number} by the manual's rules", None if is_so else f"status {done.returncode}: {verdicts}"
 
 
+def the_example(program: str) -> Iterator[Test]:
+    """What examples/live-failures.txt says of the manual's rules: by them no such list of events does what it asks about."""
+    done = run(program, ["explore"], input=read(os.path.join(TOP, "examples", "live-failures.txt")))
+    is_so = done.returncode == 0 and done.stdout.endswith(b" down\nholds\nholds\nholds\n")
+    yield "examples/live-failures.txt by the manual's rules", None if is_so else f"status {done.returncode}: {done.stdout!r}"
+
+
 def refused_words(program: str) -> Iterator[Test]:
     """More workers than one don't go with live nodes."""
     text = b"--workers doesn't go with explore --rules otp25, which tries one list after the other"
@@ -601,4 +609,4 @@ def refused_words(program: str) -> Iterator[Test]:
 SHARES = [range(begin, begin + AT_ONCE) for begin in range(0, SEARCHES, AT_ONCE)]
 TESTS = (Group(explored_live, SHARES, is_long=True, end=reaches_all),
          Group(in_orders, [range(begin, begin + IN_ORDERS_AT_ONCE) for begin in range(0, IN_ORDERS, IN_ORDERS_AT_ONCE)]),
-         Group(by_the_manual, SHARES[:3]), longest_lists, nothing_to_try, new_asks, refused_words)
+         Group(by_the_manual, SHARES[:3]), longest_lists, nothing_to_try, new_asks, the_example, refused_words)
