@@ -171,10 +171,17 @@ def is_forbid_at_rest(cluster: ClusterFile, command: str, before: Lines, answer:
     return word == "permit" and rest[2] == "false" and rest[1] not in cluster.entries and not hangs(before) and answer[0] == "ok"
 
 
+def is_up_at(node: str, before: Lines) -> bool:
+    """The node is up, so that a call is given to it."""
+    return any(line.startswith(f"node {node} up ") for line, _ in before[1])
+
+
 def is_start_at_rest(word: str, cluster: ClusterFile, command: str, before: Lines) -> bool:
-    """An application that isn't distributed is started, or permitted, where nothing hangs, whatever the answer is."""
+    """An application that isn't distributed is started, or permitted, at a node that is up, where nothing hangs, whatever the node
+    answers."""
     first, *rest = words_of(command)
-    return first == word and rest[1] not in cluster.entries and rest[2:] != ["false"] and not hangs(before)
+    is_such = first == word and rest[1] not in cluster.entries and rest[2:] != ["false"]
+    return is_such and is_up_at(rest[0], before) and not hangs(before)
 
 
 def is_fatal_at_rest(cluster: ClusterFile, command: str, before: Lines, answer: Lines) -> bool:
@@ -184,9 +191,9 @@ def is_fatal_at_rest(cluster: ClusterFile, command: str, before: Lines, answer: 
 
 
 def is_start_elsewhere(cluster: ClusterFile, command: str, before: Lines) -> bool:
-    """An application is started where nothing hangs, and runs at another node, which is the first of its list."""
+    """An application is started at a node that is up, where nothing hangs, and runs at another node, which is the first of its list."""
     word, *rest = words_of(command)
-    if word != "start" or rest[1] not in cluster.entries or hangs(before):
+    if word != "start" or rest[1] not in cluster.entries or not is_up_at(rest[0], before) or hangs(before):
         return False
     first = cluster.entries[rest[1]].groups[0]
     return isinstance(first, str) and first != rest[0] and (f"app {rest[1]} running {first}", 1) in before[1]
@@ -241,10 +248,11 @@ def is_start_nowhere(cluster: ClusterFile, command: str, before: Lines, answer: 
 
 
 def is_permit_alone(cluster: ClusterFile, command: str, before: Lines) -> bool:
-    """A distributed application is permitted, or forbidden, where nothing hangs and that changes nothing else: it isn't started at the
-    node; or it is permitted, and runs there; or it is forbidden, and neither runs there nor is lost. Whatever the answer is."""
+    """A distributed application is permitted, or forbidden, at a node that is up, where nothing hangs and that changes nothing else: it
+    isn't started at the node; or it is permitted, and runs there; or it is forbidden, and neither runs there nor is lost. Whatever the
+    node answers."""
     word, *rest = words_of(command)
-    if word != "permit" or rest[1] not in cluster.entries or hangs(before):
+    if word != "permit" or rest[1] not in cluster.entries or not is_up_at(rest[0], before) or hangs(before):
         return False
     runs, waits, lost = (any(line.startswith(f"{rest[0]}  {kind} {rest[1]} ") for line, _ in before[1])
                          for kind in ("running", "waiting", "timer failover"))
