@@ -39,7 +39,6 @@ use Rattle.rh_otp_dist.specs.Choosing.{places_of, candidates_of, remote, runs_at
 use Rattle.rh_otp_dist.specs.Sending.{monitor}
 use Rattle.rh_otp_dist.specs.State.{DistView, TurnView, standing_of, is_among}
 use Rattle.rh_otp_dist.specs.Views.{AttemptView}
-use Rattle.rh_otp_net.specs.declared.locks.Held.{Held}
 use Rattle.rh_otp_net.specs.Links.{are_linked}
 use Rattle.rh_otp_system.specs.declared.calls.Ask.TheVariants as ask
 use Rattle.rh_otp_system.specs.declared.calls.Call.{Call}
@@ -49,10 +48,10 @@ use Rattle.rh_otp_system.specs.Delivering.{arrived}
 use Rattle.rh_otp_system.specs.Doing.{called, call_of}
 use Rattle.rh_otp_system.specs.State.{SystemView, node_at, own_at, is_alive_at}
 use Rattle.rh_otp_orders.specs.Confluence.{IsOrderly}
-use Rattle.rh_otp_orders.specs.Orders.{is_call}
 use Rattle.rh_otp_crashes.proofs.Peace.{here_in, without as without_messages}
 use Rattle.rh_otp_crashes.proofs.Starting.{is_candidate}
 use Rattle.rh_otp_crashes.proofs.Turning.{turn}
+use Rattle.rh_otp_locks.proofs.Locks.{none_at_rest}
 use Rattle.rh_otp_stops.specs.Stops.{EndsAlike}
 use Rattle.rh_otp_stops.proofs.Saying.{its_answer}
 use Rattle.rh_otp_stops.proofs.Stop.{turn_at}
@@ -72,7 +71,7 @@ use Rattle.rh_otp_begins.proofs.Meeting.{orderly}
 -- ---- the dist_ac chooses its own node
 
 -- what its controller is told: to start it, or to take it over from the node that is known to run it
-abbrev its_verdict : Option Node → Verdict
+abbrev pub its_verdict : Option Node → Verdict
 its_verdict None = verdict.StartIt
 its_verdict (Some m) = verdict.Takeover m
 
@@ -91,7 +90,7 @@ tells_start (Some k) standing.Takeover = refl
 tells_start (Some k) (standing.Failover m) = refl
 tells_start (Some k) (standing.Distributed m) = refl
 
-starts_here : (a : App) (t : TurnView) → IsChosen t.own t.here.node a t.state
+pub starts_here : (a : App) (t : TurnView) → IsChosen t.own t.here.node a t.state
     → start_distributed (asked_attempt t.state a) t ≡ told_so a (reply_of (its_verdict (remote t.state a))) standing.RunWaiting t
 unfolding is_to_start start_here finish
 starts_here a t r =
@@ -381,21 +380,21 @@ told_yes {lives} {c} r s t kind can f = first_orderly e t f.still (by (cases_Boo
     by (inr dead) = quiet_orderly q (lost e.to e.message t f.still dead)
 
 pub here_alike : StartsHereEndAlike
-here_alike s n a restart reached rest none soon starts = by (cases_Bool (controls (own_at s n) a))
+here_alike s n a restart reached rest soon starts = by (cases_Bool (controls (own_at s n) a))
   where
     c : Call
     c = call_of (ask.Start restart) n a s
 
-    no_locks : All (λ (h : Held). is_call h.owner.role ≡ false) s.locks
-    no_locks =
-        subst (All (λ (h : Held). is_call h.owner.role ≡ false)) (sym none) (All-nil (λ (h : Held). is_call h.owner.role ≡ false))
+    -- nobody has a lock where all are at rest
+    none : s.locks ≡ []
+    none = none_at_rest s reached rest
 
     by : (controls (own_at s n) a ≡ true) ⊎ (controls (own_at s n) a ≡ false) → EndsAlike (called (ask.Start restart) n a s)
     by (inl controlled) =
-        command_alike (ask.Start restart) s n a refl reached rest no_locks (over_before s soon)
+        command_alike (ask.Start restart) s n a refl reached rest (over_before s soon)
         (λ before f.
         asked_orderly IsYes (asked_so before c s) f none (λ d has is. decides (own_at s n) n a d (starts.chooses d has is))
         (asks_start c restart (turn_at s n) controlled)
         (λ r t kind replied. told_yes r (asked_so before c s) t kind
         (record { listed = controlled; takeovers = starts.sees_all.takeovers; sees = starts.sees_all.sees }) replied))
-    by (inr local) = starts_alike s n a restart reached rest no_locks soon local
+    by (inr local) = starts_alike s n a restart reached rest soon local

@@ -1,8 +1,6 @@
 -- A call that starts an application, where nodes were at rest and the node's dist_ac leaves it to another one.
 use Rattle.std.proofs.Common.{◌≡◌, ◌≢◌, ◌⊎◌, ◌++◌, ◌&&◌, ◌||◌, ◌==◌, ℕ, Bool, true, false, not, cond, List, [], ◌∷◌, slice_get, Option, Some, None, refl, sym, ap, subst, ◌∙◌, inl, inr}
-use Rattle.std.specs.Prelude.{All}
 use Rattle.std.proofs.lemmas.Bool.{cases_Bool, cases_eq, ne_eqb, false≢true}
-use Rattle.std.proofs.lemmas.List.Elements.{All-nil}
 use Rattle.std.proofs.lemmas.Option.{none-some, same_Some}
 use Rattle.rh_model.specs.declared.node.App.{App}
 use Rattle.rh_model.specs.declared.node.Node.{Node}
@@ -41,12 +39,12 @@ use Rattle.rh_otp_system.specs.Working as working
 use Rattle.rh_otp_system.specs.Working.{lock_of}
 use Rattle.rh_otp_laws.proofs.Nodes.{node_written, others_same, same_number, same_of_all}
 use Rattle.rh_otp_orders.specs.Confluence.{IsOrderly}
-use Rattle.rh_otp_orders.specs.Orders.{is_call}
 use Rattle.rh_otp_crashes.specs.Crashes.{IsUnoccupied}
 use Rattle.rh_otp_crashes.specs.Failovers.{first_of}
 use Rattle.rh_otp_crashes.proofs.Peace.{IsFree, here_in, without, arrives_alive, is_free_at_ease, no_lock_at, no_place}
 use Rattle.rh_otp_crashes.proofs.Turning.{own_in, turn, idle, none_on, waits_on, still_waits}
 use Rattle.rh_otp_crashes.proofs.Waiting.{monitors_it}
+use Rattle.rh_otp_locks.proofs.Locks.{none_at_rest}
 use Rattle.rh_otp_stops.specs.Stops.{EndsAlike}
 use Rattle.rh_otp_stops.proofs.Answering.{cannot_call}
 use Rattle.rh_otp_stops.proofs.Stop.{turn_at}
@@ -384,20 +382,20 @@ told_left {lives} {c} row s t none leaves on =
     (λ d has is. still_left c.node c.app d s t on.files on.links on.awake (leaves d (sym on.dist ∙ has) is))
 
 pub left_alike : StartsLeftEndAlike
-left_alike s n a restart reached rest none soon leaves = by (cases_Bool (controls (own_at s n) a))
+left_alike s n a restart reached rest soon leaves = by (cases_Bool (controls (own_at s n) a))
   where
     c : Call
     c = call_of (ask.Start restart) n a s
 
-    no_locks : All (λ (h : Held). is_call h.owner.role ≡ false) s.locks
-    no_locks =
-        subst (All (λ (h : Held). is_call h.owner.role ≡ false)) (sym none) (All-nil (λ (h : Held). is_call h.owner.role ≡ false))
+    -- nobody has a lock where all are at rest
+    none : s.locks ≡ []
+    none = none_at_rest s reached rest
 
     by : (controls (own_at s n) a ≡ true) ⊎ (controls (own_at s n) a ≡ false) → EndsAlike (called (ask.Start restart) n a s)
     by (inl controlled) =
-        command_alike (ask.Start restart) s n a refl reached rest no_locks (over_before s soon)
+        command_alike (ask.Start restart) s n a refl reached rest (over_before s soon)
         (λ answers f.
         call_orderly (asked_so answers c s) f (asks_start c restart (turn_at s n) controlled)
         (λ row t on. told_left row (asked_so answers c s) t none
         (λ d has is. still_left n a d s (asked_so answers c s) refl refl (λ m. refl) (leaves d has is)) on))
-    by (inr local) = starts_alike s n a restart reached rest no_locks soon local
+    by (inr local) = starts_alike s n a restart reached rest soon local

@@ -1,7 +1,7 @@
-mod Nowhere
-mod Left
-mod Hearing
-mod Running
+pub mod Nowhere
+pub mod Left
+pub mod Hearing
+pub mod Running
 mod Meeting
-mod Here
+pub mod Here
 mod Rows

@@ -214,7 +214,7 @@ ran_acts {c = c} {error} s left alive r = record {
 }
 
 -- another one's controller is told
-changed_acts : {K : Envelope → Type 0} (m : Node) (x : Message) (s : SystemView) → is_alive_at s m ≡ true
+pub changed_acts : {K : Envelope → Type 0} (m : Node) (x : Message) (s : SystemView) → is_alive_at s m ≡ true
     → ((d : DistView) → (node_at s m).dist ≡ Some d → IsUnoccupied d) → Changed s.cluster s.files m x
     → Acted AtEase K m s (controlled m x s)
 changed_acts {K} m x s alive rest ch =

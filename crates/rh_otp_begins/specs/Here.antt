@@ -1,5 +1,5 @@
 -- Starts of a distributed application at the node that is to run it, and that every order of what comes of one ends alike.
-use Rattle.std.specs.Prelude.{◌≡◌, [], false, Some}
+use Rattle.std.specs.Prelude.{◌≡◌, false, Some}
 use Rattle.rh_model.specs.declared.node.App.{App}
 use Rattle.rh_model.specs.declared.node.Node.{Node}
 use Rattle.rh_model.specs.declared.settings.Restart.{Restart}
@@ -29,9 +29,9 @@ pub record StartsHere (n : Node) (a : App) (s : SystemView) : Type 0 where
   pub chooses : (d : DistView) → (node_at s n).dist ≡ Some d → d.stand ≡ stand.Idle → IsChosen (own_at s n) n a d
   pub sees_all : SeesAll n s
 
--- A start of any application ends alike, where nobody has a lock of `global` and the application is to run at the node itself: there it
--- starts, as a takeover where another node is known to run it, or fails to, since what it needs doesn't run there, which may end the node;
--- the others are told of it, and the start is answered (application(3), start/2; kernel(6), `distributed`).
+-- A start of any application ends alike, where the application is to run at the node itself: there it starts, as a takeover where another
+-- node is known to run it, or fails to, since what it needs doesn't run there, which may end the node; the others are told of it, and the
+-- start is answered (application(3), start/2; kernel(6), `distributed`).
 abbrev pub StartsHereEndAlike : Type 0
-StartsHereEndAlike = (s : SystemView) (n : Node) (a : App) (restart : Restart) → IsReached s → AreAtRest s → s.locks ≡ []
-    → IsOverBefore s → StartsHere n a s → EndsAlike (called (ask.Start restart) n a s)
+StartsHereEndAlike = (s : SystemView) (n : Node) (a : App) (restart : Restart) → IsReached s → AreAtRest s → IsOverBefore s
+    → StartsHere n a s → EndsAlike (called (ask.Start restart) n a s)

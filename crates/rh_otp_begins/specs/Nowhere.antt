@@ -22,9 +22,9 @@ pub record RunsNowhere (own : OwnView) (a : App) (d : DistView) : Type 0 where
   pub nobody : candidates_at own a d ≡ []
   pub unknown : remote d a ≡ None
 
--- A start of any application ends alike, where nobody has a lock of `global` and the node's dist_ac, if it takes whatever comes, knows no
--- node that may run it or runs it (application(3), start/2; kernel(6), `distributed`).
+-- A start of any application ends alike, where the node's dist_ac, if it takes whatever comes, knows no node that may run it or runs it
+-- (application(3), start/2; kernel(6), `distributed`).
 abbrev pub StartsNowhereEndAlike : Type 0
-StartsNowhereEndAlike = (s : SystemView) (n : Node) (a : App) (restart : Restart) → IsReached s → AreAtRest s → s.locks ≡ []
-    → IsOverBefore s → ((d : DistView) → (node_at s n).dist ≡ Some d → d.stand ≡ stand.Idle → RunsNowhere (own_at s n) a d)
+StartsNowhereEndAlike = (s : SystemView) (n : Node) (a : App) (restart : Restart) → IsReached s → AreAtRest s → IsOverBefore s
+    → ((d : DistView) → (node_at s n).dist ≡ Some d → d.stand ≡ stand.Idle → RunsNowhere (own_at s n) a d)
     → EndsAlike (called (ask.Start restart) n a s)

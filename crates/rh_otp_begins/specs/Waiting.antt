@@ -1,5 +1,5 @@
 -- Starts of a distributed application by which the node waits for another one, and that every order of what comes of one ends alike.
-use Rattle.std.specs.Prelude.{◌≡◌, ◌≢◌, ◌⊎◌, ◌==◌, ◌||◌, [], true, false, Some, None}
+use Rattle.std.specs.Prelude.{◌≡◌, ◌≢◌, ◌⊎◌, ◌==◌, ◌||◌, true, false, Some, None}
 use Rattle.rh_model.specs.declared.node.App.{App}
 use Rattle.rh_model.specs.declared.node.Node.{Node}
 use Rattle.rh_model.specs.declared.settings.Restart.{Restart}
@@ -31,9 +31,9 @@ pub record IsLeftTo (n : Node) (a : App) (d : DistView) (s : SystemView) : Type 
       ⊎ ((is_among n (candidates_at (own_at s n) a d) ≡ false) × (remote d a ≡ None)
       × (is_among at (candidates_at (own_at s n) a d) ≡ true))
 
--- A start of an application ends alike, where nobody has a lock of `global` and the node's dist_ac, if it takes whatever comes, leaves
--- it to another node: the call stays open, until that node starts the application (application(3), start/2; kernel(6), `distributed`).
+-- A start of an application ends alike, where the node's dist_ac, if it takes whatever comes, leaves it to another node: the call stays
+-- open, until that node starts the application (application(3), start/2; kernel(6), `distributed`).
 abbrev pub StartsLeftEndAlike : Type 0
-StartsLeftEndAlike = (s : SystemView) (n : Node) (a : App) (restart : Restart) → IsReached s → AreAtRest s → s.locks ≡ []
-    → IsOverBefore s → ((d : DistView) → (node_at s n).dist ≡ Some d → d.stand ≡ stand.Idle → IsLeftTo n a d s)
+StartsLeftEndAlike = (s : SystemView) (n : Node) (a : App) (restart : Restart) → IsReached s → AreAtRest s → IsOverBefore s
+    → ((d : DistView) → (node_at s n).dist ≡ Some d → d.stand ≡ stand.Idle → IsLeftTo n a d s)
     → EndsAlike (called (ask.Start restart) n a s)

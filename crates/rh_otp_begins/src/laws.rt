@@ -4,12 +4,12 @@ ghost use Rattle.rh_otp_begins.specs.Here.{StartsHereEndAlike};
 ghost use Rattle.rh_otp_begins.specs.Nowhere.{StartsNowhereEndAlike};
 ghost use Rattle.rh_otp_begins.specs.Waiting.{StartsLeftEndAlike};
 
-/// Where live nodes are at rest, no call is open and nobody has a lock of `global`, all that comes of a start is alike, in whatever order
-/// its messages arrive, where the application is to run at the node itself: the node's dist_ac, if it takes whatever comes, finds its own
-/// node to be the first of the list that may run it, with no tuple before that, and doesn't know it to run there. Nobody waits at the node
-/// for a takeover, and the node sees all those that are alive and of which its dist_ac knows. So it is whatever comes of the start: whether
-/// the application starts there, moves there from another node, or fails to start, which may end the node. The command doesn't wait for
-/// nodes that end by themselves, as no start does. No order has more moves than another one.
+/// Where live nodes are at rest and no call is open, all that comes of a start is alike, in whatever order its messages arrive, where the
+/// application is to run at the node itself: the node's dist_ac, if it takes whatever comes, finds its own node to be the first of the list
+/// that may run it, with no tuple before that, and doesn't know it to run there. Nobody waits at the node for a takeover, and the node sees
+/// all those that are alive and of which its dist_ac knows. So it is whatever comes of the start: whether the application starts there,
+/// moves there from another node, or fails to start, which may end the node. The command doesn't wait for nodes that end by themselves, as
+/// no start does. No order has more moves than another one.
 pub fn starts_here_end_alike()
     ensures { StartsHereEndAlike }
 {}

@@ -224,11 +224,11 @@ hears_of K c files n life a m (Some d) kind free = by (free d refl).stand
     by (inr is) = has_waiting K c files n life (message.AppStarted m a None) d (free d refl) is refl
 
 -- what its controller does: an application that ran here, too, stops
-abbrev stops_at : Node → App → Option Place → Bool → List Event
+abbrev pub stops_at : Node → App → Option Place → Bool → List Event
 stops_at n a (Some place_of.Here) true = event.Stopped a n ∷ []
 stops_at n a o b = []
 
-abbrev moved : App → Node → ControllerView → ControllerView
+abbrev pub moved : App → Node → ControllerView → ControllerView
 moved a m c = record c { running = (a, place_of.At m) ∷ keydelete a c.running }
 
 -- what it shows
@@ -267,17 +267,17 @@ shows n a (Some place_of.Here) false s = λ i. record s { events = sym (append-n
 shows n a (Some (place_of.At k)) b s = λ i. record s { events = sym (append-nil s.events) i }
 shows n a (Some place_of.Nowhere) b s = λ i. record s { events = sym (append-nil s.events) i }
 
-abbrev moved_by : App → Node → ControllerView → ControllerView
+abbrev pub moved_by : App → Node → ControllerView → ControllerView
 moved_by a m c = cond c.is_ending c (moved a m c)
 
-abbrev seen_by : Node → App → ControllerView → List Event
+abbrev pub seen_by : Node → App → ControllerView → List Event
 seen_by n a c = cond c.is_ending [] (stops_at n a (keyfind a c.running) (has_row a c.started))
 
 -- the turn of a controller, carried out
 abbrev carried : Node → LiveView → ControllerTurn → SystemView → SystemView
 carried n v t s = all_carried_out n t.out (with_node n (record v { controller = t.state }) s)
 
-moves_so : (n : Node) (a : App) (m : Node) (s : SystemView) (v : LiveView) → live_at s n ≡ Some v
+pub moves_so : (n : Node) (a : App) (m : Node) (s : SystemView) (v : LiveView) → live_at s n ≡ Some v
     → controlled n (message.Change a (change_of.Started m)) s
     ≡ record (with_node n (record v { controller = moved_by a m v.controller }) s) { events = s.events ++ seen_by n a v.controller }
 unfolding controlled_by received change

@@ -1,5 +1,5 @@
-mod Noting
+pub mod Noting
 mod Crossing
-mod Asking
-mod Permit
+pub mod Asking
+pub mod Permit
 mod Rows

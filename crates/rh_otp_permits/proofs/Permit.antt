@@ -23,7 +23,6 @@ use Rattle.rh_otp_dist.specs.Outside.{with_message}
 use Rattle.rh_otp_dist.specs.State.{DistView, TurnView, standing_of, is_among}
 use Rattle.rh_otp_dist.specs.Told.{is_local}
 use Rattle.rh_otp_dist.specs.Waiting.{takes}
-use Rattle.rh_otp_net.specs.declared.locks.Held.{Held}
 use Rattle.rh_otp_net.specs.Links.{are_linked}
 use Rattle.rh_otp_node.specs.Live.{LiveView, is_alive}
 use Rattle.rh_otp_system.specs.declared.calls.Ask.TheVariants as ask
@@ -39,13 +38,13 @@ use Rattle.rh_otp_system.specs.State.{SystemView, live_at, node_at, with_node, i
 use Rattle.rh_otp_system.specs.Working.{mailed}
 use Rattle.rh_otp_laws.proofs.Nodes.{same_of_all}
 use Rattle.rh_otp_orders.specs.Confluence.{IsOrderly}
-use Rattle.rh_otp_orders.specs.Orders.{is_call}
 use Rattle.rh_otp_orders.proofs.Taking.{Taken}
 use Rattle.rh_otp_crashes.specs.Crashes.{IsUnoccupied}
 use Rattle.rh_otp_crashes.proofs.Crossing.{same_node}
 use Rattle.rh_otp_crashes.proofs.Peace.{AtPeace, AtEase, at_ease, here_in, without, arrives_alive, arrives_dead}
 use Rattle.rh_otp_crashes.proofs.Posting.{posts, mails, all_posted, all_mailed}
 use Rattle.rh_otp_crashes.proofs.Turning.{own_in, turn, weighing, none_on, idle_comes, waits_on, still_waits}
+use Rattle.rh_otp_locks.proofs.Locks.{none_at_rest}
 use Rattle.rh_otp_stops.proofs.Answering.{cannot_call}
 use Rattle.rh_otp_stops.proofs.Saying.{its_answer}
 use Rattle.rh_otp_stops.proofs.Still.{Come, uncalled, only_come}
@@ -361,12 +360,15 @@ permit_orderly {lives} {c} {allow} s f calls none can =
     by (inr dead) other = quiet_orderly q (lost e.to e.message s f dead)
 
 pub permits_alone : PermitsAloneEndAlike
-permits_alone s n a allow reached rest none soon listed can =
+permits_alone s n a allow reached rest soon listed can =
     command_alike (ask.Permit allow) s n a refl reached rest
-    (subst (All (λ (h : Held). is_call h.owner.role ≡ false)) (sym none) (All-nil (λ (h : Held). is_call h.owner.role ≡ false)))
     (over_before s soon)
     (λ before f. permit_orderly {c = c} (asked_so before c s) f refl none
     (record { listed = listed; synchronised = can.synchronised; notes = can.notes; sees = can.sees }))
   where
+    -- nobody has a lock where all are at rest
+    none : s.locks ≡ []
+    none = none_at_rest s reached rest
+
     c : Call
     c = call_of (ask.Permit allow) n a s

@@ -1,5 +1,5 @@
 -- Permissions of distributed applications that change nothing else, and that every order of what comes of one ends alike.
-use Rattle.std.specs.Prelude.{◌≡◌, ◌⊎◌, ◌==◌, ◌||◌, ◌&&◌, not, [], Bool, true, false, Some}
+use Rattle.std.specs.Prelude.{◌≡◌, ◌⊎◌, ◌==◌, ◌||◌, ◌&&◌, not, Bool, true, false, Some}
 use Rattle.rh_model.specs.declared.node.App.{App}
 use Rattle.rh_model.specs.declared.node.Node.{Node}
 use Rattle.rh_otp_model.specs.Own.{controls}
@@ -40,8 +40,8 @@ pub record NotesAlone (n : Node) (a : App) (allow : Bool) (s : SystemView) : Typ
   pub sees : (m : Node) → is_among m (backwards (own_at s n) a) ≡ true → is_alive_at s m ≡ true
       → (n.0 == m.0 || are_linked n m s.links) ≡ true
 
--- A call that permits or forbids a distributed application ends alike, where nobody has a lock of `global` and only the permission changes
+-- A call that permits or forbids a distributed application ends alike, where only the permission changes
 -- (application(3), permit/2; kernel(6), `distributed`).
 abbrev pub PermitsAloneEndAlike : Type 0
-PermitsAloneEndAlike = (s : SystemView) (n : Node) (a : App) (allow : Bool) → IsReached s → AreAtRest s → s.locks ≡ [] → IsOverBefore s
+PermitsAloneEndAlike = (s : SystemView) (n : Node) (a : App) (allow : Bool) → IsReached s → AreAtRest s → IsOverBefore s
     → controls (own_at s n) a ≡ true → NotesAlone n a allow s → EndsAlike (called (ask.Permit allow) n a s)

@@ -2,7 +2,7 @@
 
 ghost use Rattle.rh_otp_permits.specs.Permits.{PermitsAloneEndAlike};
 
-/// Where live nodes are at rest, no call is open and nobody has a lock of `global`, all that comes of a permit or a forbid of a distributed
+/// Where live nodes are at rest and no call is open, all that comes of a permit or a forbid of a distributed
 /// application is alike, in whatever order its messages arrive, where only the permission changes: the application is neither started nor
 /// being started at the node; or it is permitted and runs there; or it is forbidden, and the node's dist_ac knows that it runs at another
 /// node, or nothing of it. Where it is forbidden it doesn't run there. The node's dist_ac has synchronised with the others, and the node

@@ -1,8 +1,6 @@
 -- A call that starts an application, where nodes were at rest and the node's dist_ac finds it running elsewhere.
-use Rattle.std.proofs.Common.{◌≡◌, ◌⊎◌, ℕ, Bool, true, false, cond, List, Some, refl, sym, ap, subst, ◌∙◌, inl, inr}
-use Rattle.std.specs.Prelude.{All}
+use Rattle.std.proofs.Common.{◌≡◌, ◌⊎◌, ℕ, Bool, true, false, cond, List, [], Some, refl, sym, ap, subst, ◌∙◌, inl, inr}
 use Rattle.std.proofs.lemmas.Bool.{cases_Bool}
-use Rattle.std.proofs.lemmas.List.Elements.{All-nil}
 use Rattle.rh_model.specs.ClusterView.{ClusterView}
 use Rattle.rh_model.specs.declared.node.App.{App}
 use Rattle.rh_model.specs.declared.node.Node.{Node}
@@ -16,15 +14,14 @@ use Rattle.rh_otp_dist.specs.Attempts.{finish, runs_elsewhere}
 use Rattle.rh_otp_dist.specs.Choosing.{places_of, candidates_of, remote, runs_there, is_to_start, start_distributed, outside}
 use Rattle.rh_otp_dist.specs.State.{DistView, TurnView, is_among}
 use Rattle.rh_otp_dist.specs.Views.{AttemptView}
-use Rattle.rh_otp_net.specs.declared.locks.Held.{Held}
 use Rattle.rh_otp_system.specs.declared.calls.Ask.TheVariants as ask
 use Rattle.rh_otp_system.specs.declared.calls.Call.{Call}
 use Rattle.rh_otp_system.specs.Doing.{called, call_of}
 use Rattle.rh_otp_system.specs.State.{SystemView, node_at, own_at}
 use Rattle.rh_otp_orders.specs.Confluence.{IsOrderly}
-use Rattle.rh_otp_orders.specs.Orders.{is_call}
 use Rattle.rh_otp_crashes.specs.Failovers.{first_of}
 use Rattle.rh_otp_crashes.proofs.Turning.{turn}
+use Rattle.rh_otp_locks.proofs.Locks.{none_at_rest}
 use Rattle.rh_otp_stops.specs.Stops.{EndsAlike}
 use Rattle.rh_otp_stops.proofs.Stop.{turn_at}
 use Rattle.rh_otp_starts.specs.Elsewhere.{RunsElsewhere, StartsElsewhereEndAlike, asked_attempt}
@@ -36,7 +33,7 @@ use Rattle.rh_otp_starts.proofs.Start.{over_before, asked_so, command_alike, sta
 
 -- ---- the dist_ac finds it there
 
-starts_there : (a : App) (t : TurnView) (r : RunsElsewhere t.own t.here.node a t.state)
+pub starts_there : (a : App) (t : TurnView) (r : RunsElsewhere t.own t.here.node a t.state)
     → start_distributed (asked_attempt t.state a) t ≡ told_so a (reply_of.Started r.at) (standing.Distributed r.at) t
 unfolding runs_elsewhere finish
 starts_there a t r = by r.found
@@ -78,19 +75,19 @@ told_away {lives} {c} r s t (m, is) f =
     (replied_at c m f.row x.start_req x.starting (turn_at s c.node) f.not_ending f.nobody))
 
 pub elsewhere_alike : StartsElsewhereEndAlike
-elsewhere_alike s n a restart reached rest none soon finds = by (cases_Bool (controls (own_at s n) a))
+elsewhere_alike s n a restart reached rest soon finds = by (cases_Bool (controls (own_at s n) a))
   where
     c : Call
     c = call_of (ask.Start restart) n a s
 
-    no_locks : All (λ (h : Held). is_call h.owner.role ≡ false) s.locks
-    no_locks =
-        subst (All (λ (h : Held). is_call h.owner.role ≡ false)) (sym none) (All-nil (λ (h : Held). is_call h.owner.role ≡ false))
+    -- nobody has a lock where all are at rest
+    none : s.locks ≡ []
+    none = none_at_rest s reached rest
 
     by : (controls (own_at s n) a ≡ true) ⊎ (controls (own_at s n) a ≡ false) → EndsAlike (called (ask.Start restart) n a s)
     by (inl controlled) =
-        command_alike (ask.Start restart) s n a refl reached rest no_locks (over_before s soon)
+        command_alike (ask.Start restart) s n a refl reached rest (over_before s soon)
         (λ answers f.
         asked_orderly IsAway (asked_so answers c s) f none (λ d has is. decides (own_at s n) n a d (finds d has is))
         (asks_start c restart (turn_at s n) controlled) (λ r t is_so replied. told_away r (asked_so answers c s) t is_so replied))
-    by (inr local) = starts_alike s n a restart reached rest no_locks soon local
+    by (inr local) = starts_alike s n a restart reached rest soon local

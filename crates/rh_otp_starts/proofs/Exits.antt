@@ -171,7 +171,7 @@ exit_orderly {lives} {c} s f can exits = first_orderly e s f (by (cases_Bool (is
 
 pub fatal_exits_alike : FatalExitsEndAlike
 fatal_exits_alike s n a is_normal reached rest can timed =
-    command_alike (ask.Exit is_normal) s n a refl reached rest can.locks (λ soon. timed)
+    command_alike (ask.Exit is_normal) s n a refl reached rest (λ soon. timed)
     (λ before f. by before f (cases_Bool (controls (own_at s n) a)))
   where
     c : Call

@@ -65,7 +65,7 @@ found_by attempt m candidates (n ∷ nodes) false behind t other rest goes_on is
     at true is = ap (λ (x : Node). at_first attempt x t) (same_Some n m is)
     at false is = goes_on is
 
-finds : (attempt : AttemptView) (m : Node) (candidates : List Node) (k : ℕ) (places : List WrittenView) (t : TurnView)
+pub finds : (attempt : AttemptView) (m : Node) (candidates : List Node) (k : ℕ) (places : List WrittenView) (t : TurnView)
     → first_of candidates places ≡ Some m → find_from attempt candidates k places t ≡ at_first attempt m t
 finds attempt m candidates k [] t is = absurd (none-some m is)
 finds attempt m candidates k (w ∷ places) t is =
@@ -243,7 +243,7 @@ request_comes n a s v d over there has free is none closed =
     ∙ works_locked n a s v d over (there ∙ ap Some as_idle) none closed
 
 -- its own lock is free again
-freed_own : (n : Node) (life : ℕ) → freed (Alone (record { role = role.DistAc; node = n; life = life }))
+pub freed_own : (n : Node) (life : ℕ) → freed (Alone (record { role = role.DistAc; node = n; life = life }))
     (record { role = role.DistAc; node = n; life = life }) (its_lock n life) ≡ []
 freed_own n life =
     ap (λ (b : Bool). cond (not ((b && life == life) && (b && life == life))) (its_lock n life) []) (eq-eqb n.0 n.0 refl)

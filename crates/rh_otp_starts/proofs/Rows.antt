@@ -37,7 +37,6 @@ use Rattle.rh_otp_system.specs.Sending.{told as system_told, after as system_aft
 use Rattle.rh_otp_system.specs.Working.{take_lock as system_take_lock, gone as system_gone, handled as system_handled, work as system_work, mailed as system_mailed}
 use Rattle.rh_otp_controller.specs.declared.state.Place.TheVariants as place_of
 use Rattle.rh_otp_dist.specs.State.{DistView, is_among}
-use Rattle.rh_otp_net.specs.declared.locks.Held.{Held}
 use Rattle.rh_otp_net.specs.declared.order.Order.TheVariants.{FirstComes}
 use Rattle.rh_otp_net.specs.Links.{are_linked}
 use Rattle.rh_otp_node.specs.Live.{never_begun}
@@ -47,9 +46,8 @@ use Rattle.rh_otp_system.specs.Moves.{IsSettled, is_settled_by}
 use Rattle.rh_otp_system.specs.State.{SystemView, system_of, node_at, own_at}
 use Rattle.rh_otp_system.proofs.Moving.{settles}
 use Rattle.rh_otp_laws.specs.Acting.{IsReached, new}
-use Rattle.rh_otp_orders.specs.Orders.{is_call}
 use Rattle.rh_otp_crashes.specs.Crashes.{IsUnoccupied, AreAtRest, FailOverLater}
-use Rattle.rh_otp_stops.specs.Stops.{CanEnd, NoCallLocks}
+use Rattle.rh_otp_stops.specs.Stops.{CanEnd}
 use Rattle.rh_otp_stops.proofs.Rows.{n1, n2, d1, l1, file, no_net, quiet, dist_of, IsThere, NoMore, begins_at, is_it, at_rest, of_both}
 use Rattle.rh_otp_starts.specs.Elsewhere.{RunsElsewhere}
 use Rattle.rh_otp_starts.specs.Starts.{IsOverBefore}
@@ -180,9 +178,6 @@ are_at_rest s first second so none settled = record {
       (at_rest s n1 first) (at_rest s n2 second) n.0 alive d has;
 }
 
-no_locks : (s : SystemView) → Waits s → NoCallLocks s
-no_locks s so = subst (All (λ (h : Held). is_call h.owner.role ≡ false)) (sym so.locks) (All-nil (λ (h : Held). is_call h.owner.role ≡ false))
-
 -- the second node finds the first application at the first one
 record Finds (s : SystemView) : Type 0 where
   listed : controls (own_at s n2) d1 ≡ true
@@ -231,7 +226,6 @@ can_end s there so fatal none = record {
     };
     ends = λ d has. ap (λ (x : DistView). x.s_reqs) (sym (is_it s n1 d there has)) ∙ fatal.ends;
   };
-  locks = no_locks s so;
 }
 
 later : (k : ℕ) → All (λ (e : EntryView). 0 < e.timeout) (own_at both_up (record { 0 = k })).entries
@@ -246,7 +240,6 @@ later (suc (suc k)) = All-nil (λ (e : EntryView). 0 < e.timeout)
 record Row : Type 0 where
   is_reached : IsReached both_up
   is_at_rest : AreAtRest both_up
-  locks : NoCallLocks both_up
   waits : Waits both_up
   finds : Finds both_up
   finds_it : (d : DistView) → (node_at both_up n2).dist ≡ Some d → RunsElsewhere (own_at both_up n2) n2 d1 d
@@ -259,7 +252,6 @@ row : Row
 row = record {
   is_reached = both_reached;
   is_at_rest = are_at_rest both_up first_there second_there waits no_more ((settles 1000 FirstComes (booted n2 one_up)).1 is_quiet);
-  locks = no_locks both_up waits;
   waits = waits;
   finds = finds;
   finds_it = finds_it both_up second_there finds;

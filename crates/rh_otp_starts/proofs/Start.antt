@@ -27,7 +27,8 @@ use Rattle.rh_otp_orders.proofs.Moving.{reached_order}
 use Rattle.rh_otp_crashes.specs.Crashes.{AreAtRest, FailOverLater}
 use Rattle.rh_otp_crashes.proofs.Crash.{none_ends, lives_of}
 use Rattle.rh_otp_crashes.proofs.Peace.{here_in, without}
-use Rattle.rh_otp_stops.specs.Stops.{EndsAlike, NoCallLocks}
+use Rattle.rh_otp_locks.proofs.Locks.{none_of_calls}
+use Rattle.rh_otp_stops.specs.Stops.{EndsAlike}
 use Rattle.rh_otp_stops.proofs.Saying.{its_answer}
 use Rattle.rh_otp_stops.proofs.Stop.{its_call, turn_at, asked, call_asks}
 use Rattle.rh_otp_starts.specs.Starts.{IsOverBefore, StartsEndAlike, PermitsEndAlike}
@@ -100,10 +101,10 @@ asked_orderly {lives} {c} s f goes = first_orderly e s f (by (cases_Bool (is_ali
 abbrev pub asked_so : List Answered → Call → SystemView → SystemView
 asked_so answers c s = record (asked c s) { answers = answers }
 
-is_asked : (answers : List Answered) (c : Call) (s : SystemView) → IsReached s → AreAtRest s → NoCallLocks s
+is_asked : (answers : List Answered) (c : Call) (s : SystemView) → IsReached s → AreAtRest s
     → (s.ends_soon ≡ true → FailOverLater s) → c.stage ≡ stage.Controller → c.life ≡ (node_at s c.node).life
     → Waits (lives_of s) c true (its_call c ∷ []) (asked_so answers c s)
-is_asked answers c s reached rest locks later_on staged life = record {
+is_asked answers c s reached rest later_on staged life = record {
   messages = refl;
   slow = (settled_stays_so s s rest.settled (here s)).0.1;
   dists = rest.dists;
@@ -115,16 +116,16 @@ is_asked answers c s reached rest locks later_on staged life = record {
   calls = λ i. record c { stage = staged i } ∷ [];
   waits = λ call q. refl;
   life = life;
-  locks = locks;
+  locks = none_of_calls s reached rest;
 }
 
 -- a call that asks the controller first, and is orderly from there
-pub command_alike : (k : Ask) (s : SystemView) (n : Node) (a : App) → is_takeover k ≡ false → IsReached s → AreAtRest s → NoCallLocks s
+pub command_alike : (k : Ask) (s : SystemView) (n : Node) (a : App) → is_takeover k ≡ false → IsReached s → AreAtRest s
     → (s.ends_soon ≡ true → FailOverLater s)
     → ((answers : List Answered) → Waits (lives_of s) (call_of k n a s) true (its_call (call_of k n a s) ∷ []) (asked_so answers (call_of k n a s) s)
     → IsOrderly (asked_so answers (call_of k n a s) s))
     → EndsAlike (called k n a s)
-command_alike k s n a first reached rest locks later_on order = (
+command_alike k s n a first reached rest later_on order = (
   orderly_alike t reached_t (subst IsOrderly (sym so) (ordered s.answers)),
   λ most one other quiet quiet_too.
       picks_alike t most one other reached_t (subst (λ (x : SystemView). IsOrderly (record x { answers = [] })) (sym so) (ordered [])) quiet quiet_too,
@@ -146,19 +147,19 @@ command_alike k s n a first reached rest locks later_on order = (
     staged = ap (λ (b : Bool). cond b stage.Synchronised stage.Controller) first
 
     ordered : (answers : List Answered) → IsOrderly (asked_so answers c s)
-    ordered answers = order answers (is_asked answers c s reached rest locks later_on staged refl)
+    ordered answers = order answers (is_asked answers c s reached rest later_on staged refl)
 
 pub over_before : (s : SystemView) → IsOverBefore s → s.ends_soon ≡ true → FailOverLater s
 over_before s before soon = absurd (false≢true (sym before ∙ soon))
 
 pub starts_alike : StartsEndAlike
-starts_alike s n a restart reached rest locks soon local =
+starts_alike s n a restart reached rest soon local =
     let c : Call = call_of (ask.Start restart) n a s in
-    command_alike (ask.Start restart) s n a refl reached rest locks (over_before s soon)
+    command_alike (ask.Start restart) s n a refl reached rest (over_before s soon)
     (λ answers f. asked_orderly (asked_so answers c s) f (goes_start c restart (turn_at s n) local))
 
 pub permits_alike : PermitsEndAlike
-permits_alike s n a reached rest locks soon local nobody =
+permits_alike s n a reached rest soon local nobody =
     let c : Call = call_of (ask.Permit true) n a s in
-    command_alike (ask.Permit true) s n a refl reached rest locks (over_before s soon)
+    command_alike (ask.Permit true) s n a refl reached rest (over_before s soon)
     (λ answers f. asked_orderly (asked_so answers c s) f (goes_permit c (turn_at s n) local nobody))

@@ -52,17 +52,17 @@ pub data IsSaid (n : Node) : Output → Type 0 where
   stops : (a : App) → IsSaid n (output.Tell (event.Stopped a n))
 
 -- Carried out, that is all; and an observer keeps of which kind a start was.
-record Carried (n : Node) (s : SystemView) (v : LiveView) (outs : List Output) : Type 0 where
-  new : LiveView
-  is : all_carried_out n outs (with_node n v s)
+pub record Carried (n : Node) (s : SystemView) (v : LiveView) (outs : List Output) : Type 0 where
+  pub new : LiveView
+  pub is : all_carried_out n outs (with_node n v s)
       ≡ record (with_node n new s) { messages = s.messages ++ letters outs; events = s.events ++ sights outs }
-  life : new.life ≡ v.life
-  phase : new.phase ≡ v.phase
-  stopped : new.is_stopped ≡ v.is_stopped
-  controller : new.controller ≡ v.controller
-  dist : new.dist ≡ v.dist
+  pub life : new.life ≡ v.life
+  pub phase : new.phase ≡ v.phase
+  pub stopped : new.is_stopped ≡ v.is_stopped
+  pub controller : new.controller ≡ v.controller
+  pub dist : new.dist ≡ v.dist
 
-carries_said : (n : Node) (outs : List Output) (s : SystemView) (u v : LiveView) → live_at s n ≡ Some u → All (IsSaid n) outs
+pub carries_said : (n : Node) (outs : List Output) (s : SystemView) (u v : LiveView) → live_at s n ≡ Some u → All (IsSaid n) outs
     → Carried n s v outs
 unfolding told
 carries_said n [] s u v there said = record {
@@ -211,7 +211,7 @@ letters_behind (output.Free r p ∷ outs) e = letters_behind outs e
 letters_behind (output.After time m ∷ outs) e = letters_behind outs e
 
 -- what runs here stops, and no message is sent
-stops_each : (n : Node) (rows : List (App × Place)) (t : TurnView) → t.here.node ≡ n → All (IsSaid n) t.out
+pub stops_each : (n : Node) (rows : List (App × Place)) (t : TurnView) → t.here.node ≡ n → All (IsSaid n) t.out
     → All (IsSaid n) (stop_each rows t).out × (letters (stop_each rows t).out ≡ letters t.out)
 stops_each n [] t of_node said = (said, refl)
 stops_each n ((a, place_of.Here) ∷ rows) t of_node said =
@@ -235,7 +235,7 @@ never_both true = refl
 never_both false = refl
 
 -- all that runs there stops, and that is all for now
-stopped_waits : {lives : Node → ℕ} {c : Call} {may_end : Bool} (s : SystemView) → Waits lives c may_end [] s → may_end ≡ true
+pub stopped_waits : {lives : Node → ℕ} {c : Call} {may_end : Bool} (s : SystemView) → Waits lives c may_end [] s → may_end ≡ true
     → is_alive_at s c.node ≡ true → s.ends_soon ≡ false → Waits lives c false [] (made (move.End c.node) s)
 unfolding made stopped terminated_by after
 stopped_waits {lives} {c} {may_end} s f may alive soon =

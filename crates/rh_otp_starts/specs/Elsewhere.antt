@@ -1,5 +1,5 @@
 -- Starts of a distributed application at a node that finds it running at another one, and that every order of what comes of one ends alike.
-use Rattle.std.specs.Prelude.{◌≡◌, ◌⊎◌, List, [], true, false, Some, None}
+use Rattle.std.specs.Prelude.{◌≡◌, ◌⊎◌, List, true, false, Some, None}
 use Rattle.rh_model.specs.declared.node.App.{App}
 use Rattle.rh_model.specs.declared.node.Node.{Node}
 use Rattle.rh_model.specs.declared.settings.Restart.{Restart}
@@ -34,10 +34,9 @@ pub record RunsElsewhere (own : OwnView) (n : Node) (a : App) (d : DistView) : T
       × (runs_there d a at ≡ true))
       ⊎ ((is_among n (candidates_at own a d) ≡ false) × (remote d a ≡ Some at))
 
--- A start of any application ends alike, where nobody has a lock of `global` and the node's dist_ac, if it takes whatever comes, knows that
--- the application runs elsewhere (application(3), start/2; kernel(6), `distributed`).
+-- A start of any application ends alike, where the node's dist_ac, if it takes whatever comes, knows that the application runs elsewhere
+-- (application(3), start/2; kernel(6), `distributed`).
 abbrev pub StartsElsewhereEndAlike : Type 0
-StartsElsewhereEndAlike = (s : SystemView) (n : Node) (a : App) (restart : Restart) → IsReached s → AreAtRest s → s.locks ≡ []
-    → IsOverBefore s
+StartsElsewhereEndAlike = (s : SystemView) (n : Node) (a : App) (restart : Restart) → IsReached s → AreAtRest s → IsOverBefore s
     → ((d : DistView) → (node_at s n).dist ≡ Some d → d.stand ≡ stand.Idle → RunsElsewhere (own_at s n) n a d)
     → EndsAlike (called (ask.Start restart) n a s)

@@ -87,7 +87,7 @@ ended_by a st t = record t {
   out = t.out ++ told_by st t.here.node a t.state.known;
 }
 
-abbrev ended_over : App → TurnView → TurnView
+abbrev pub ended_over : App → TurnView → TurnView
 ended_over a t = ended_by a (standing_of t.state a) t
 
 -- nobody waits at it
@@ -106,7 +106,7 @@ ends_by a standing.RunWaiting t = λ i. last_of a (record (unasked t) { out = sy
 ends_by a standing.Takeover t = λ i. last_of a (record (unasked t) { out = sym (append-nil t.out) i })
 ends_by a (standing.Failover m) t = λ i. last_of a (record (unasked t) { out = sym (append-nil t.out) i })
 
-ends_so : (a : App) (t : TurnView) → t.state.t_reqs ≡ [] → t.state.s_reqs ≡ [] → stopped a t ≡ ended_over a t
+pub ends_so : (a : App) (t : TurnView) → t.state.t_reqs ≡ [] → t.state.s_reqs ≡ [] → stopped a t ≡ ended_over a t
 unfolding stopped not_run answer_ends del_t_reqs
 ends_so a t none none_too =
     (λ i. stopped a (record t { state = record t.state { t_reqs = none i; s_reqs = none_too i } }))

@@ -42,7 +42,6 @@ use Rattle.rh_otp_dist.specs.declared.state.Stand.TheVariants as stand
 use Rattle.rh_otp_dist.specs.declared.state.Standing.TheVariants as standing
 use Rattle.rh_otp_dist.specs.State.{DistView, beginning, standing_of, is_among}
 use Rattle.rh_otp_dist.specs.Waiting.{takes}
-use Rattle.rh_otp_net.specs.declared.locks.Held.{Held}
 use Rattle.rh_otp_net.specs.declared.order.Order.TheVariants.{FirstComes}
 use Rattle.rh_otp_net.specs.Links.{are_linked}
 use Rattle.rh_otp_node.specs.Live.{LiveView, never_begun}
@@ -54,7 +53,6 @@ use Rattle.rh_otp_system.specs.Views.{NetView}
 use Rattle.rh_otp_system.proofs.Moving.{settles}
 use Rattle.rh_otp_laws.specs.Acting.{IsReached, new, later, acts, begins}
 use Rattle.rh_otp_laws.proofs.Commands.{commands_reached}
-use Rattle.rh_otp_orders.specs.Orders.{is_call}
 use Rattle.rh_otp_crashes.specs.Crashes.{IsUnoccupied, AreAtRest}
 use Rattle.rh_otp_stops.specs.Stops.{CanEnd, KeepsNode}
 
@@ -280,7 +278,6 @@ can_end s first so none = record {
     };
     ends = λ d has. ap (λ (x : DistView). x.s_reqs) (sym (is_it s n1 d first has)) ∙ so.ends;
   };
-  locks = subst (All (λ (h : Held). is_call h.owner.role ≡ false)) (sym so.locks) (All-nil (λ (h : Held). is_call h.owner.role ≡ false));
 }
 
 -- There are such calls: stops and exits of an application that runs there and of which another node is told, and forbids of one that isn't

@@ -39,6 +39,7 @@ use Rattle.rh_otp_crashes.proofs.Carrying.{letters}
 use Rattle.rh_otp_crashes.proofs.Crash.{none_ends, lives_of}
 use Rattle.rh_otp_crashes.proofs.Peace.{AtPeace, AtEase, Acted, at_ease, without, arrives_alive, arrives_dead, peace_forgets}
 use Rattle.rh_otp_crashes.proofs.Turning.{own_in}
+use Rattle.rh_otp_locks.proofs.Locks.{none_of_calls}
 use Rattle.rh_otp_stops.specs.Stops.{CanEnd, EndsAlike, StopsEndAlike, ExitsEndAlike, ForbidsEndAlike}
 use Rattle.rh_otp_stops.proofs.Answering.{at_stage, NoneOfCalls, cannot_call}
 use Rattle.rh_otp_stops.proofs.Ending.{Knows}
@@ -215,7 +216,7 @@ is_asked c s reached rest can staged life says = record {
   calls = refl;
   staged = staged;
   life = life;
-  locks = can.locks;
+  locks = none_of_calls s reached rest;
   knows = λ is d has. record {
     takeovers = (can.tells is).sees_all.takeovers d has;
     ends = (can.tells is).ends d has;
@@ -266,6 +267,6 @@ exits_alike s n a is_normal reached rest can keeps =
     (says_exit (call_of (ask.Exit is_normal) n a s) is_normal (turn_at s n) refl keeps)
 
 pub forbids_alike : ForbidsEndAlike
-forbids_alike s n a reached rest local locks =
-    ask_alike (ask.Permit false) s n a refl reached rest (record { tells = λ is. absurd (false≢true (sym local ∙ is)); locks = locks })
+forbids_alike s n a reached rest local =
+    ask_alike (ask.Permit false) s n a refl reached rest (record { tells = λ is. absurd (false≢true (sym local ∙ is)) })
     (says_forbid (call_of (ask.Permit false) n a s) (turn_at s n) refl local)

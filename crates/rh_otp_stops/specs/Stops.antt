@@ -1,5 +1,5 @@
 -- Calls of an operator that end an application where live nodes are at rest, and that every order of what comes of one ends alike.
-use Rattle.std.specs.Prelude.{◌≡◌, ◌&&◌, ℕ, [], Bool, true, false, All, Some}
+use Rattle.std.specs.Prelude.{◌≡◌, ◌&&◌, ℕ, [], Bool, true, false, Some}
 use Rattle.rh_model.specs.declared.node.App.{App}
 use Rattle.rh_model.specs.declared.node.Node.{Node}
 use Rattle.rh_otp_model.specs.Own.{controls}
@@ -7,7 +7,6 @@ use Rattle.rh_otp_model.specs.Rows.{keyfind}
 use Rattle.rh_otp_controller.specs.Calls.{is_here, ends_with}
 use Rattle.rh_otp_controller.specs.State.{ControllerView}
 use Rattle.rh_otp_dist.specs.State.{DistView}
-use Rattle.rh_otp_net.specs.declared.locks.Held.{Held}
 use Rattle.rh_otp_net.specs.declared.order.Order.{Order}
 use Rattle.rh_otp_system.specs.declared.calls.Ask.TheVariants as ask
 use Rattle.rh_otp_system.specs.Doing.{called}
@@ -15,7 +14,7 @@ use Rattle.rh_otp_system.specs.Moves.{settled, is_settled_by}
 use Rattle.rh_otp_system.specs.State.{SystemView, node_at, own_at}
 use Rattle.rh_otp_laws.specs.Acting.{IsReached}
 use Rattle.rh_otp_orders.specs.Confluence.{EveryOrderEndsAlike}
-use Rattle.rh_otp_orders.specs.Orders.{AreAlike, is_call}
+use Rattle.rh_otp_orders.specs.Orders.{AreAlike}
 use Rattle.rh_otp_crashes.specs.Crashes.{AreAtRest}
 use Rattle.rh_otp_crashes.specs.Failovers.{SeesAll}
 
@@ -25,14 +24,9 @@ pub record CanTell (n : Node) (s : SystemView) : Type 0 where
   pub sees_all : SeesAll n s
   pub ends : (d : DistView) → (node_at s n).dist ≡ Some d → d.s_reqs ≡ []
 
--- no call has a lock of `global`
-abbrev pub NoCallLocks : SystemView → Type 0
-NoCallLocks s = All (λ (h : Held). is_call h.owner.role ≡ false) s.locks
-
--- Where the application is one of the node's own `distributed`, its dist_ac can tell the others of its end. And no call has a lock.
+-- Where the application is one of the node's own `distributed`, its dist_ac can tell the others of its end.
 pub record CanEnd (n : Node) (a : App) (s : SystemView) : Type 0 where
   pub tells : controls (own_at s n) a ≡ true → CanTell n s
-  pub locks : NoCallLocks s
 
 -- The end of an application keeps the node, by its restart type and by how it ends (application(3)); or the application doesn't run there.
 abbrev pub KeepsNode : App → Bool → ControllerView → Type 0
@@ -55,5 +49,5 @@ ExitsEndAlike = (s : SystemView) (n : Node) (a : App) (is_normal : Bool) → IsR
 
 -- A call that forbids an application, at a node whose own `distributed` hasn't got it, ends alike: there it stops, if it runs there.
 abbrev pub ForbidsEndAlike : Type 0
-ForbidsEndAlike = (s : SystemView) (n : Node) (a : App) → IsReached s → AreAtRest s → controls (own_at s n) a ≡ false → NoCallLocks s
+ForbidsEndAlike = (s : SystemView) (n : Node) (a : App) → IsReached s → AreAtRest s → controls (own_at s n) a ≡ false
     → EndsAlike (called (ask.Permit false) n a s)
