@@ -1,0 +1,4 @@
+pub mod Stopping
+pub mod Starting
+pub mod Elsewhere
+pub mod Moving

@@ -1,0 +1,38 @@
+-- Permits by which a distributed application starts at the node, and that every order of what comes of one ends alike.
+use Rattle.std.specs.Prelude.{◌≡◌, true, false, Some}
+use Rattle.rh_model.specs.declared.node.App.{App}
+use Rattle.rh_model.specs.declared.node.Node.{Node}
+use Rattle.rh_otp_model.specs.Own.{OwnView, controls}
+use Rattle.rh_otp_dist.specs.declared.state.Stand.TheVariants as stand
+use Rattle.rh_otp_dist.specs.State.{DistView, standing_of, with_permission}
+use Rattle.rh_otp_dist.specs.Told.{is_local}
+use Rattle.rh_otp_system.specs.declared.calls.Ask.TheVariants as ask
+use Rattle.rh_otp_system.specs.Doing.{called}
+use Rattle.rh_otp_system.specs.State.{SystemView, node_at, own_at}
+use Rattle.rh_otp_laws.specs.Acting.{IsReached}
+use Rattle.rh_otp_crashes.specs.Crashes.{AreAtRest}
+use Rattle.rh_otp_crashes.specs.Failovers.{SeesAll}
+use Rattle.rh_otp_stops.specs.Stops.{EndsAlike}
+use Rattle.rh_otp_starts.specs.Starts.{IsOverBefore}
+use Rattle.rh_otp_begins.specs.Here.{IsChosen}
+use Rattle.rh_otp_moves.specs.Stopping.{SeesList}
+
+-- The application doesn't run at the node, and behind the permit the node's dist_ac finds its own node to be the first of the list that may
+-- run it, with no tuple before it (dist_ac, permit/6, find_start_node/5).
+pub record IsChosenThen (own : OwnView) (n : Node) (a : App) (d : DistView) : Type 0 where
+  pub not_here : is_local (standing_of d a) ≡ false
+  pub chosen : IsChosen own n a (with_permission n a true d)
+
+-- So it is, if the node's dist_ac takes whatever comes. The node sees the list, nobody waits there for a takeover, and it sees all those
+-- that are alive and of which its dist_ac knows (ours).
+pub record StartsBehind (n : Node) (a : App) (s : SystemView) : Type 0 where
+  pub sees_list : SeesList n a s
+  pub chooses : (d : DistView) → (node_at s n).dist ≡ Some d → d.stand ≡ stand.Idle → IsChosenThen (own_at s n) n a d
+  pub sees_all : SeesAll n s
+
+-- A call that permits a distributed application by which that starts at the node ends alike: there it starts, or is taken over from another
+-- node, or runs already as the controller knows, or was never started, or fails to start, since what it needs doesn't run there, which may
+-- end the node (application(3), permit/2; kernel(6), `distributed`).
+abbrev pub PermitsThatStartEndAlike : Type 0
+PermitsThatStartEndAlike = (s : SystemView) (n : Node) (a : App) → IsReached s → AreAtRest s → IsOverBefore s
+    → controls (own_at s n) a ≡ true → StartsBehind n a s → EndsAlike (called (ask.Permit true) n a s)
