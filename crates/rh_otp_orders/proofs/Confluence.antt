@@ -35,7 +35,7 @@ alike_itself s = record {
   events = λ o. refl;
 }
 
-alike_and_alike : (s t u : SystemView) → AreAlike s t → AreAlike t u → AreAlike s u
+pub alike_and_alike : (s t u : SystemView) → AreAlike s t → AreAlike t u → AreAlike s u
 alike_and_alike s t u f g = record {
   cluster = f.cluster ∙ g.cluster;
   files = f.files ∙ g.files;
@@ -65,7 +65,7 @@ counted _ _ (here s) = (0, none s)
 counted _ _ (behind_one s t u one rest) =
     let more : (n : ℕ) × Moves n t u = counted t u rest in (suc more.0, one_more more.0 s t u one more.1)
 
-reached_by : (s t : SystemView) → Delivers s t → IsReached s → IsReached t
+pub reached_by : (s t : SystemView) → Delivers s t → IsReached s → IsReached t
 reached_by s t one reached = later s t reached (acts s t (subst (Acts s) (sym one.2) (moves s one.0 one.1)))
 
 orderly_on : (s t : SystemView) → Delivers s t → IsOrderly s → IsOrderly t
@@ -79,7 +79,7 @@ alike_moves _ _ s' _ same reached (one_more n s u t one rest) =
     let more : (t' : SystemView) × Moves n first.0 t' × AreAlike t t' = alike_moves n u first.0 t first.2 (reached_by s u one reached) rest in
     (more.0, one_more n s' first.0 more.0 first.1 more.1, more.2)
 
-rest_is_alike : (s s' : SystemView) → AreAlike s s' → IsReached s' → IsSettled s → IsSettled s'
+pub rest_is_alike : (s s' : SystemView) → AreAlike s s' → IsReached s' → IsSettled s → IsSettled s'
 rest_is_alike s s' same reached settled next possible =
     let on = move_alike s' s _ (alike_back s s' same) reached (next, possible, refl) in
     settled on.1.0 on.1.1

@@ -71,7 +71,7 @@ same_left false e xs ys is = is
 
 -- ---- what comes of both
 
-alike_without : (s s' : SystemView) (left left' : List Envelope) → AreAlike s s' → ((p : Envelope) → of_pair p left ≡ of_pair p left')
+pub alike_without : (s s' : SystemView) (left left' : List Envelope) → AreAlike s s' → ((p : Envelope) → of_pair p left ≡ of_pair p left')
     → AreAlike (without s left) (without s' left')
 alike_without s s' left left' g same = record {
   cluster = g.cluster;

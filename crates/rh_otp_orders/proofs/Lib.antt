@@ -1,21 +1,21 @@
-mod Same
-mod Changing
+pub mod Same
+pub mod Changing
 mod Own
 mod Controlling
 mod Distributing
 mod Handling
-mod Turns
-mod Working
-mod Calling
-mod Receiving
-mod Going
+pub mod Turns
+pub mod Working
+pub mod Calling
+pub mod Receiving
+pub mod Going
 pub mod Taking
 mod Apart
 pub mod Commuting
 mod Leaving
-mod Falling
-mod Following
-mod Picking
+pub mod Falling
+pub mod Following
+pub mod Picking
 pub mod Moving
 pub mod Reaching
 pub mod Confluence

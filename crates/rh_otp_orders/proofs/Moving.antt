@@ -56,7 +56,7 @@ GoesOn s' t = (t' : SystemView) × moves.Delivers s' t' × AreAlike t t'
 
 -- ---- a turn of a node that is alive
 
-begins : (n : Node) (called : Bool) (room : ℕ) (a b : SystemView) → AreAlike a b → is_alive_at a n ≡ true → Same n called true room a b a b
+pub begins : (n : Node) (called : Bool) (room : ℕ) (a b : SystemView) → AreAlike a b → is_alive_at a n ≡ true → Same n called true room a b a b
 begins n called room a b g alive =
     let there : (v : LiveView) × (cell_at a n.0 ≡ Some (cell.Node v)) = there_by (cell_at a n.0) alive in
     record {
@@ -85,7 +85,7 @@ begins n called room a b g alive =
     kept_calls true = g.calls
     kept_calls false = (refl, refl)
 
-runs_alike : {n : Node} {called : Bool} {room : ℕ} {a b s t : SystemView} → AreAlike a b → Same n called true room a b s t → AreAlike s t
+pub runs_alike : {n : Node} {called : Bool} {room : ℕ} {a b s t : SystemView} → AreAlike a b → Same n called true room a b s t → AreAlike s t
 runs_alike {n} {called} {room} {a} {b} {s} {t} g same = went_alike n called a b s t g (went same)
 
 -- what reads no list reads the same in both

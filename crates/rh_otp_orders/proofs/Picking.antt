@@ -92,7 +92,7 @@ owner_itself : (o : Option Node) → is_owner o o ≡ true
 owner_itself None = refl
 owner_itself (Some n) = eq-eqb n.0 n.0 refl
 
-same_owner : (o p r : Option Node) → is_owner o p ≡ true → is_owner o r ≡ is_owner p r
+pub same_owner : (o p r : Option Node) → is_owner o p ≡ true → is_owner o r ≡ is_owner p r
 same_owner None None r is = refl
 same_owner None (Some m) r is = absurd (false≢true is)
 same_owner (Some n) None r is = absurd (false≢true is)

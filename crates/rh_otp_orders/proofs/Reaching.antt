@@ -32,7 +32,7 @@ alike_back s t g = record {
   events = λ o. sym (g.events o);
 }
 
-order_too : (s t : SystemView) → AreAlike s t → IsAliveListed s → IsAliveListed t
+pub order_too : (s t : SystemView) → AreAlike s t → IsAliveListed s → IsAliveListed t
 order_too s t g order n among = sym (same_read (λ (u : SystemView). is_alive_at u n) s t g) ∙ order n
     (subst (IsAmong n) (sym g.alive) among)
 

@@ -50,12 +50,12 @@ joins_at : {n : Node} {called strange : Bool} {room : ℕ} {a b s t : SystemView
 joins_at {n} {called} {strange} {room} {a} {b} {s} {t} g =
     wrote (kernel.joined (node_at s n)) (kernel.joined (node_at t n)) (ap kernel.joined (same_here g)) (refl, sym (still_awake g)) g
 
-joins : {n : Node} {called strange : Bool} {room : ℕ} {a b s t : SystemView} → Same n called strange room a b s t
+pub joins : {n : Node} {called strange : Bool} {room : ℕ} {a b s t : SystemView} → Same n called strange room a b s t
     → Same n called strange room a b (joining.join n s) (joining.join n t)
 unfolding joining.join
 joins {n} g = slows (slow.Boot n) (owns_itself n) (goes (tells (event.Up n) (owns_itself n) (joins_at g)))
 
-goes_on : {n : Node} {called strange : Bool} {room : ℕ} {a b s t : SystemView} → Same n called strange room a b s t
+pub goes_on : {n : Node} {called strange : Bool} {room : ℕ} {a b s t : SystemView} → Same n called strange room a b s t
     → Same n called strange room a b (joining.go_on n s) (joining.go_on n t)
 goes_on {n} {called} {strange} {room} {a} {b} {s} {t} g =
     either (kernel.waits (node_at s n)) (kernel.waits (node_at t n)) (ap kernel.waits (same_here g)) g (joins g)

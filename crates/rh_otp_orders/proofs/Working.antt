@@ -180,7 +180,7 @@ connects {n} {called} {strange} {room} {a} {b} {s} {t} one two g =
     (connecting.with_slow_links more (connecting.link one two t))) (ap (links.to_connect one two) g.links)
     (slow_links (links.to_connect one two s.links) (connecting.link one two s) (connecting.link one two t) both.0 both.1))
 
-reaches : {n : Node} {called strange : Bool} {room : ℕ} {a b s t : SystemView} (m other : Node) → Same n called strange room a b s t
+pub reaches : {n : Node} {called strange : Bool} {room : ℕ} {a b s t : SystemView} (m other : Node) → Same n called strange room a b s t
     → Same n called strange room a b (connecting.reach m other s) (connecting.reach m other t)
 reaches m other g = either (m.0 == other.0) (m.0 == other.0) refl g (connects m other g)
 
