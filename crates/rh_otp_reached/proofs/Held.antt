@@ -48,7 +48,7 @@ taken_stands c files cells ends_soon is =
 
 -- ---- what is between the nodes is written
 
-written_net : (cells : List Cell) (k : ℕ) (c : Cell) → k < length cells → slice_get (slice_set cells k c) k ≡ Some c
+pub written_net : (cells : List Cell) (k : ℕ) (c : Cell) → k < length cells → slice_get (slice_set cells k c) k ≡ Some c
 written_net [] k c within = absurd (omega (arith, within))
 written_net (d ∷ cells) zero c within = refl
 written_net (d ∷ cells) (suc k) c within = written_net cells k c (omega (arith, within))

@@ -1,7 +1,7 @@
 mod Cells
 mod Quiet
-mod Standing
-mod Held
-mod Accepted
-mod Steps
-mod States
+pub mod Standing
+pub mod Held
+pub mod Accepted
+pub mod Steps
+pub mod States

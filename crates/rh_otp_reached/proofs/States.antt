@@ -80,10 +80,10 @@ first_held c files = record {
 
 -- ---- what each call keeps
 
-record Holds (sim : LiveSimView) : Type 0 where
-  within : sim.history.cursor < length sim.history.states
-  now : AreHeld sim.cluster sim.files sim.history.now
-  each : All (AreHeld sim.cluster sim.files) sim.history.states
+pub record Holds (sim : LiveSimView) : Type 0 where
+  pub within : sim.history.cursor < length sim.history.states
+  pub now : AreHeld sim.cluster sim.files sim.history.now
+  pub each : All (AreHeld sim.cluster sim.files) sim.history.states
 
 at_step_holds : (sim : LiveSimView) (k : ℕ) → k < length sim.history.states → Holds sim → Holds (at_step_of k sim)
 at_step_holds sim k inside p = record { within = inside; now = p.each k [] inside; each = p.each }
@@ -126,7 +126,7 @@ redone_holds true sim is p =
     at_step_holds sim (sim.history.cursor + 1) (ltb-true (sim.history.cursor + 1) (length sim.history.states) is) p
 redone_holds false sim is p = p
 
-makes_holds : (call : Call) (sim : LiveSimView) → Holds sim → Holds (made_by call sim)
+pub makes_holds : (call : Call) (sim : LiveSimView) → Holds sim → Holds (made_by call sim)
 makes_holds (Step e) sim p = stepped_holds e (refused (net_in sim).clock (net_in sim).last_call e sim) sim refl p
 makes_holds Undo sim p = undone_holds (can_undo sim) sim p
 makes_holds Redo sim p = redone_holds (can_redo sim) sim refl p
@@ -138,7 +138,7 @@ behind_holds : (calls : List Call) (sim : LiveSimView) → Holds sim → Holds (
 behind_holds [] sim p = p
 behind_holds (call ∷ calls) sim p = behind_holds calls (made_by call sim) (makes_holds call sim p)
 
-opened_holds : (c : ClusterView) (files : List OwnFile) (order : Order) → Holds (opened c files order)
+pub opened_holds : (c : ClusterView) (files : List OwnFile) (order : Order) → Holds (opened c files order)
 opened_holds c files order =
     let first : List Cell = first_cells (node_count c) in
     record {

@@ -25,7 +25,7 @@ use Rattle.rh_otp_reached.proofs.Held.{AreHeld, IsOver, taken_stands, written_he
 use Rattle.rh_otp_reached.proofs.Quiet.{quiet_settled, quiet_ticked}
 use Rattle.rh_otp_reached.proofs.Standing.{Stands, stands_on, crashed_stands, called_stands, booted_stands, rested_stands, forgotten_stands}
 
-begun_stands : (e : Event) (sim : LiveSimView) → AreHeld sim.cluster sim.files sim.history.now
+pub begun_stands : (e : Event) (sim : LiveSimView) → AreHeld sim.cluster sim.files sim.history.now
     → Stands sim.cluster sim.files (begun (net_in sim) e sim)
 begun_stands e sim is =
     let now : SystemView = system_of sim.cluster sim.files sim.history.now (net_in sim) (waits_for_end e) in
@@ -55,7 +55,7 @@ calls_at c files a (n ∷ nodes) app s p = calls_at c files a nodes app _ (calls
 abbrev IsAliveAs : LiveSimView → SystemView → Type 0
 IsAliveAs sim s = (n : Node) → is_alive_at s n ≡ is_alive (node_in sim n)
 
-first_stands : (clock : ℕ) (e : Event) (sim : LiveSimView) (s : SystemView) → refusal_of clock e sim ≡ None → IsAliveAs sim s
+pub first_stands : (clock : ℕ) (e : Event) (sim : LiveSimView) (s : SystemView) → refusal_of clock e sim ≡ None → IsAliveAs sim s
     → Stands sim.cluster sim.files s → Stands sim.cluster sim.files (done_first e sim s)
 first_stands clock (event.Boot n) sim s none alive p =
     let both : (n.0 < node_count sim.cluster) × (is_alive (node_in sim n) ≡ false) = boots_down clock n sim none in
@@ -125,11 +125,11 @@ begun_quiet : (e : Event) (sim : LiveSimView) → IsQuiet (begun (net_in sim) e 
 unfolding forgotten
 begun_quiet e sim = (refl, refl)
 
-begun_alive : (e : Event) (sim : LiveSimView) → IsAliveAs sim (begun (net_in sim) e sim)
+pub begun_alive : (e : Event) (sim : LiveSimView) → IsAliveAs sim (begun (net_in sim) e sim)
 begun_alive e sim n =
     (forgotten_noted (system_of sim.cluster sim.files sim.history.now (net_in sim) (waits_for_end e))).nodes n
 
-runs_over : (e : Event) (sim : LiveSimView) → refused (net_in sim).clock (net_in sim).last_call e sim ≡ None
+pub runs_over : (e : Event) (sim : LiveSimView) → refused (net_in sim).clock (net_in sim).last_call e sim ≡ None
     → ends_with (net_in sim) e sim ≡ true → AreHeld sim.cluster sim.files sim.history.now
     → IsOver sim.cluster sim.files (system_with (net_in sim) e sim)
 runs_over e sim none quiet is =

@@ -1,0 +1,14 @@
+mod Twins
+mod Asking
+mod Moving
+mod Resembling
+mod Waiting
+mod Cells
+mod Refusing
+mod Acting
+mod Stepping
+mod Rehearsing
+mod Reporting
+mod OneWay
+mod Covering
+mod Rows

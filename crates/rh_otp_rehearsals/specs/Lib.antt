@@ -1,0 +1,4 @@
+pub mod Alike
+pub mod Rehearsals
+pub mod Reports
+pub mod Covered
