@@ -61,7 +61,7 @@ use Rattle.rh_agreement_calls.proofs.Moving.{CanAnswer, at_first, call_at, reque
 use Rattle.rh_agreement_calls.proofs.Moving as moving
 
 -- a node that is up by the manual's rules is alive
-up_is_alive : (p : Phase) (far : Mode) → mode_of_phase p ≡ far → is_up far ≡ true → cond (is_down p) false true ≡ true
+pub up_is_alive : (p : Phase) (far : Mode) → mode_of_phase p ≡ far → is_up far ≡ true → cond (is_down p) false true ≡ true
 up_is_alive phase.Down far is up = absurd (true≢false (sym (ap is_up is ∙ up)))
 up_is_alive phase.Waiting far is up = refl
 up_is_alive phase.Up far is up = refl

@@ -24,7 +24,7 @@ step_on (event.Exit n a normal) sim l together room rest calm = exit_on sim l n 
 step_on (event.Start n a restart) sim l together room rest calm = start_on sim l n a restart together room rest.now calm.0 calm.1 rest
 step_on e sim l together room rest calm = steps_on e sim l together room rest calm
 
-call_on : (c : Call) (sim : SimView) (l : LiveSimView) → GoTogether sim l → AreAlwaysAtRest sim l → IsCalmCall c sim l → GoesOn c sim l
+pub call_on : (c : Call) (sim : SimView) (l : LiveSimView) → GoTogether sim l → AreAlwaysAtRest sim l → IsCalmCall c sim l → GoesOn c sim l
 call_on (call.Step e) sim l together rest calm = step_on e sim l together calm.0 rest calm.1
 call_on c sim l together rest calm = back_on c sim l together rest calm
 

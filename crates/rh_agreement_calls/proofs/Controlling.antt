@@ -34,7 +34,7 @@ use Rattle.rh_otp_system.specs.State.{SystemView}
 abbrev pub well_answered : Node → LiveView → Process → Envelope
 well_answered n v caller = record { from = process_at (here_of n v) role.Controller; to = caller; message = message.Answer outcome.Done }
 
-place_here : (o : Option Place) → is_here o ≡ true → o ≡ Some Here
+pub place_here : (o : Option Place) → is_here o ≡ true → o ≡ Some Here
 place_here (Some Here) is = refl
 place_here (Some (At n)) is = absurd (false≢true is)
 place_here (Some Nowhere) is = absurd (false≢true is)

@@ -111,7 +111,7 @@ module _ (s t : StateView) (valid : IsValid s) (lessens : Lessens s t) where
 
   -- ---- nothing moves
 
-  none_moves : NoneEnabled t []
+  pub none_moves : NoneEnabled t []
   none_moves (Local n a) is =
       let was = lessens.fewer.waited n a is.2 is.3 in
       valid.still (Local n a) (

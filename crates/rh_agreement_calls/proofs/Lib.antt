@@ -1,15 +1,15 @@
-mod Fewer
+pub mod Fewer
 mod Ended
-mod Controlling
-mod Moving
-mod Told
-mod ByHand
-mod CallAlike
+pub mod Controlling
+pub mod Moving
+pub mod Told
+pub mod ByHand
+pub mod CallAlike
 mod StopAlike
-mod Started
-mod Starting
-mod StartTold
+pub mod Started
+pub mod Starting
+pub mod StartTold
 mod StartAlike
-mod Calm
+pub mod Calm
 mod Rows
 mod RowsStart

@@ -39,19 +39,19 @@ use Rattle.rh_events.proofs.SoundMarks.{sound_mark}
 use Rattle.rh_agreement_calls.specs.Starts.{CanStart, is_dep}
 use Rattle.rh_agreement_calls.proofs.Fewer.{none_comes_up}
 
-wanted_not_quiet : {P : Type 0} (from : Option Node) (st : Standing) → st ≡ Quiet → st ≡ Wanted from → P
+pub wanted_not_quiet : {P : Type 0} (from : Option Node) (st : Standing) → st ≡ Quiet → st ≡ Wanted from → P
 wanted_not_quiet from st quiet wanted = absurd (clash (sym quiet ∙ wanted))
   where
     clash : Quiet ≡ Wanted from → ⊥
     clash is = cc
 
-running_not_quiet : {P : Type 0} (m : Node) (st : Standing) → st ≡ Quiet → st ≡ Running m → P
+pub running_not_quiet : {P : Type 0} (m : Node) (st : Standing) → st ≡ Quiet → st ≡ Running m → P
 running_not_quiet m st quiet runs = absurd (clash (sym quiet ∙ runs))
   where
     clash : Quiet ≡ Running m → ⊥
     clash is = cc
 
-running_not_wanted : {P : Type 0} (m : Node) (from : Option Node) (st : Standing) → st ≡ Running m → st ≡ Wanted from → P
+pub running_not_wanted : {P : Type 0} (m : Node) (from : Option Node) (st : Standing) → st ≡ Running m → st ≡ Wanted from → P
 running_not_wanted m from st runs wanted = absurd (clash (sym runs ∙ wanted))
   where
     clash : Running m ≡ Wanted from → ⊥

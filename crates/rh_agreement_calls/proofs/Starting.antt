@@ -32,11 +32,11 @@ use Rattle.rh_otp_node.specs.Turns.{controller_turn, controlled_by}
 use Rattle.rh_agreement_calls.proofs.Controlling.{well_answered}
 
 -- a row in front is the first of its application
-found_first : {T : Type 0} (a : App) (x : T) (rows : List (App × T)) → keyfind a ((a, x) ∷ rows) ≡ Some x
+pub found_first : {T : Type 0} (a : App) (x : T) (rows : List (App × T)) → keyfind a ((a, x) ∷ rows) ≡ Some x
 found_first a x rows = ap (λ (b : Bool). option_map (λ row. row.1) (cond b (Some (a, x)) (find (is_of a) rows))) (eq-eqb a.0 a.0 refl)
 
 -- nobody of these has asked for it
-none_asked : (a : App) (o : Outcome) (rows : List (App × Option Process)) (t : TurnView) → has_row a rows ≡ false
+pub none_asked : (a : App) (o : Outcome) (rows : List (App × Option Process)) (t : TurnView) → has_row a rows ≡ false
     → reply_each a o rows t ≡ t
 none_asked a o [] t none = refl
 none_asked a o (row ∷ rows) t none = by (row.0.0 == a.0) refl none (λ left. none_asked a o rows t left)

@@ -1,0 +1,4 @@
+pub mod Stops
+pub mod Starts
+pub mod Waits
+pub mod Calls
