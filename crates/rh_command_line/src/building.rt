@@ -172,7 +172,9 @@ fn states_argument<'a>(parts: Parts<'a>) -> Arg<'a>
         .action(ArgAction::Set)
         .value_parser(ValueParser::Unsigned(1, MOST_STATES as u64))
         .default_value("1000000")
-        .help("Keeps so many states at most, and ends unfinished where there are more")
+        .help(
+            "Keeps at most so many states, and ends unfinished where there are more; on live nodes tries at most so many lists, and ends unfinished behind as many",
+        )
 }
 
 // How much memory the keys of the states take, as an argument.

@@ -39,7 +39,7 @@ Exit status:
   9  `run` was asked to be strict, and a step was refused; `verify` found what
      isn't as the script expects, or `explore` what isn't as asked; or `lint`
      found an error or a warning
- 10  `explore` found more states than it was to keep";
+ 10  `explore` is unfinished: there may be more than was searched";
 
 pub static RUN_ABOUT: &str = "Reads a cluster file and a script, and answers each command";
 

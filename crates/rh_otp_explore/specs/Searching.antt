@@ -49,24 +49,24 @@ abbrev pub CoversAll : ℕ → Covered → Type 0
 CoversAll steps covered.All = Unit {0}
 CoversAll steps (covered.UpTo n) = steps ≤ n
 
--- what is known of the asks behind the first k lists, and whether each has failed there
+-- has each ask failed behind one of these lists?
 abbrev pub all_failed : List AskView → List Behind → Bool
 all_failed asks lists = list_all has_failed (map (asked_of lists) asks)
 
 -- so many were tried as there may be, or each ask has failed
 abbrev pub IsEnough : ℕ → LiveExploredView → Type 0
-IsEnough states x = (states ≤ x.lists) ⊎ (list_all has_failed x.asked ≡ true)
+IsEnough most x = (most ≤ x.lists) ⊎ (list_all has_failed x.asked ≡ true)
 
 -- ---- the whole
 
 -- What a search answers behind a base, of lists of at most so many events, and of so many lists at most. The lists are tried in their order,
 -- one at least; of each ask it is told which is the first behind which it doesn't hold; none is tried once each has failed; and all of the
 -- told lengths were tried, which are all within the bound unless what was tried was enough.
-pub record IsLiveAnswer (w : Scope) (base : LiveSimView) (steps states : ℕ) (asks : List AskView) (x : LiveExploredView) : Type 0 where
+pub record IsLiveAnswer (w : Scope) (base : LiveSimView) (steps most : ℕ) (asks : List AskView) (x : LiveExploredView) : Type 0 where
   pub some : 0 < x.lists
-  pub few : (x.lists ≤ states) ⊎ (x.lists ≡ 1)
+  pub few : (x.lists ≤ most) ⊎ (x.lists ≡ 1)
   pub there : x.lists ≤ length (up_to w steps (at_base base))
   pub asked : x.asked ≡ map (asked_of (tried w steps (at_base base) x)) asks
   pub prompt : (k : ℕ) → 0 < k → k < x.lists → all_failed asks (take k (up_to w steps (at_base base))) ≡ false
   pub covered : IsCovered w steps (at_base base) x.lists x.covered
-  pub whole : (IsEnough states x → ⊥) → CoversAll steps x.covered
+  pub whole : (IsEnough most x → ⊥) → CoversAll steps x.covered

@@ -36,9 +36,10 @@ use std::alloc::Global;
 ///
 /// # Errors
 /// `Cluster` and `BadLine` (a line that is no command of the base and none of a search) are told alone, as JSON a bad line behind the
-/// cluster. `Differs` is the end of the text that was written, where what is asked fails, and `Unfinished`, where none does and not all
-/// lists were tried that the script says. `Read` comes where the reader has failed or the input is too long, and `OutOfMemory` where a
-/// growth was refused: nothing was written. `Write` comes where the writer has failed: a front of the text was written.
+/// cluster. `Differs` is the end of the text that was written, where what is asked fails, and `Unfinished`, where none does and as many
+/// lists were tried as may be, even if there are no others, or lists of 255 events and the script allows longer ones. `Read` comes where
+/// the reader has failed or the input is too long, and `OutOfMemory` where a growth was refused: nothing was written. `Write` comes where
+/// the writer has failed: a front of the text was written.
 pub fn run_explore_live<S: Source, K: Sink>(
     alloc: Global,
     reader: &mut Watched<S>,
