@@ -100,7 +100,7 @@ has_none K c files n life m = record {
 -- ---- it waits for others still
 
 -- it takes none of these
-abbrev NoneTaken : DistView → List Message → Type 0
+abbrev pub NoneTaken : DistView → List Message → Type 0
 NoneTaken d mail = All (λ (m : Message). takes d.stand m ≡ false) mail
 
 passed_over : (p : Message → Bool) (mail : List Message) → All (λ (m : Message). p m ≡ false) mail → position_or_len p mail ≡ length mail
@@ -110,16 +110,16 @@ passed_over p (m ∷ mail) none =
     ∙ (let same : position_or_len p mail ≡ length mail = passed_over p mail (All-tail (λ (x : Message). p x ≡ false) m mail none) in
     omega (arith, same))
 
-none_next : (p : Message → Bool) (mail : List Message) → All (λ (m : Message). p m ≡ false) mail → position p mail ≡ None
+pub none_next : (p : Message → Bool) (mail : List Message) → All (λ (m : Message). p m ≡ false) mail → position p mail ≡ None
 none_next p mail none =
     ap (λ (b : Bool). cond b (Some (position_or_len p mail)) None)
     (le-ltb (position_or_len p mail) (length mail) (let same : position_or_len p mail ≡ length mail = passed_over p mail none in omega (arith, same)))
 
-idles : (k : ℕ) (n : Node) (s : SystemView) → working.has_next_at s n ≡ false → working.work_for k n s ≡ s
+pub idles : (k : ℕ) (n : Node) (s : SystemView) → working.has_next_at s n ≡ false → working.work_for k n s ≡ s
 idles zero n s none = refl
 idles (suc k) n s none = ap (λ (b : Bool). cond b (working.work_for k n (working.handled n s)) s) none
 
-works_waiting : (n : Node) (m : Message) (s : SystemView) (v : LiveView) (d : DistView) → live_at s n ≡ Some v → v.dist ≡ Some d
+pub works_waiting : (n : Node) (m : Message) (s : SystemView) (v : LiveView) (d : DistView) → live_at s n ≡ Some v → v.dist ≡ Some d
     → NoneTaken d (d.mail ++ m ∷ [])
     → working.work n (mailed_to n m v s) ≡ with_node n (record v { dist = Some (with_message m d) }) s
 unfolding working.work

@@ -60,7 +60,7 @@ alike_and_alike s t u f g = record {
 
 -- ---- runs, by their length
 
-counted : (s t : SystemView) → Reaches s t → (n : ℕ) × Moves n s t
+pub counted : (s t : SystemView) → Reaches s t → (n : ℕ) × Moves n s t
 counted _ _ (here s) = (0, none s)
 counted _ _ (behind_one s t u one rest) =
     let more : (n : ℕ) × Moves n t u = counted t u rest in (suc more.0, one_more more.0 s t u one more.1)
@@ -72,7 +72,7 @@ orderly_on : (s t : SystemView) → Delivers s t → IsOrderly s → IsOrderly t
 orderly_on s t one orderly p q r reaches = orderly p q r (behind_one s t p one reaches)
 
 -- as many moves of a system that is alike
-alike_moves : (n : ℕ) (s s' t : SystemView) → AreAlike s s' → IsReached s → Moves n s t → (t' : SystemView) × Moves n s' t' × AreAlike t t'
+pub alike_moves : (n : ℕ) (s s' t : SystemView) → AreAlike s s' → IsReached s → Moves n s t → (t' : SystemView) × Moves n s' t' × AreAlike t t'
 alike_moves _ _ s' _ same reached (none s) = (s', none s', same)
 alike_moves _ _ s' _ same reached (one_more n s u t one rest) =
     let first : (u' : SystemView) × Delivers s' u' × AreAlike u u' = move_alike s s' u same reached one in
@@ -124,7 +124,7 @@ left _ _ q _ reached orderly (one_more n p p1 t first rest) settled one =
           same = alike_and_alike t shorter.end across.0 shorter.same across.2;
         }
 
-reached_on : (n : ℕ) (s t : SystemView) → Moves n s t → IsReached s → IsReached t
+pub reached_on : (n : ℕ) (s t : SystemView) → Moves n s t → IsReached s → IsReached t
 reached_on _ _ _ (none s) reached = reached
 reached_on _ _ _ (one_more n s u t one rest) reached = reached_on n u t rest (reached_by s u one reached)
 

@@ -36,7 +36,7 @@ pub order_too : (s t : SystemView) → AreAlike s t → IsAliveListed s → IsAl
 order_too s t g order n among = sym (same_read (λ (u : SystemView). is_alive_at u n) s t g) ∙ order n
     (subst (IsAmong n) (sym g.alive) among)
 
-settled_too : (s t : SystemView) → AreAlike s t → IsAliveListed s → IsSettled s → IsSettled t
+pub settled_too : (s t : SystemView) → AreAlike s t → IsAliveListed s → IsSettled s → IsSettled t
 settled_too s t g order settled next possible =
     let on : (u : SystemView) × Delivers s u × AreAlike (made next t) u =
     go_alike t s (made next t) (alike_back s t g) (order_too s t g order) (next, possible, refl) in
