@@ -18,7 +18,7 @@ use Rattle.rh_otp_orders.specs.Orders.{is_owner, node_told, SameOfEach}
 use Rattle.rh_otp_orders.proofs.Same.{IsOf, IsToldBy, Owns}
 
 -- no two of these pass the same test
-abbrev Clash : {A : Type 0} → (A → Bool) → (A → Type 0) → (A → Type 0) → Type 0
+abbrev pub Clash : {A : Type 0} → (A → Bool) → (A → Type 0) → (A → Type 0) → Type 0
 Clash {A} q P Q = (c d : A) → q c ≡ true → q d ≡ true → P c → Q d → ⊥
 
 one_is_empty : {A : Type 0} (q : A → Bool) (P Q : A → Type 0) (xs ys : List A) → Clash q P Q → All P xs → All Q ys

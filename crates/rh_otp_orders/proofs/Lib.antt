@@ -10,7 +10,7 @@ pub mod Calling
 pub mod Receiving
 pub mod Going
 pub mod Taking
-mod Apart
+pub mod Apart
 pub mod Commuting
 mod Leaving
 pub mod Falling

@@ -40,13 +40,13 @@ use Rattle.rh_otp_starts.proofs.Falling.{Falls, orderly}
 -- ---- who is told
 
 -- so much is as it was, and each message more tells a dist_ac of the end
-record Told (lives : Node → ℕ) (gone : Process) (s t : SystemView) : Type 0 where
-  files : t.files ≡ s.files
-  soon : t.ends_soon ≡ s.ends_soon
-  same_lives : (n : Node) → (node_at t n).life ≡ (node_at s n).life
-  more : List Envelope
-  behind : t.messages ≡ s.messages ++ more
-  each : All (IsFallout lives gone) more
+pub record Told (lives : Node → ℕ) (gone : Process) (s t : SystemView) : Type 0 where
+  pub files : t.files ≡ s.files
+  pub soon : t.ends_soon ≡ s.ends_soon
+  pub same_lives : (n : Node) → (node_at t n).life ≡ (node_at s n).life
+  pub more : List Envelope
+  pub behind : t.messages ≡ s.messages ++ more
+  pub each : All (IsFallout lives gone) more
 
 nobody : {lives : Node → ℕ} {gone : Process} (s : SystemView) → Told lives gone s s
 nobody {lives} {gone} s = record {
@@ -126,7 +126,7 @@ falls {lives} {gone} n s = record {
   each = All-nil (IsFallout lives gone);
 }
 
-end_tells : {lives : Node → ℕ} (n : Node) (s : SystemView) → ((k : Node) → (node_at s k).life ≡ lives k)
+pub end_tells : {lives : Node → ℕ} (n : Node) (s : SystemView) → ((k : Node) → (node_at s k).life ≡ lives k)
     → Told lives (process_at (here_in lives n) role.DistAc) s (crashed n s)
 unfolding ended
 end_tells {lives} n s is =
@@ -147,19 +147,19 @@ end_tells {lives} n s is =
 -- ---- the others
 
 -- a node is as it was, or its dist_ac was told that it monitors this one no more
-abbrev IsAsItWas : Node → LiveView → LiveView → Type 0
+abbrev pub IsAsItWas : Node → LiveView → LiveView → Type 0
 IsAsItWas n v w = (w ≡ v) ⊎ (w ≡ without_monitors n v)
 
-kept : {A : Type 0} (f : LiveView → A) (n : Node) (v w : LiveView)
+pub kept : {A : Type 0} (f : LiveView → A) (n : Node) (v w : LiveView)
     → ((o : Option DistView) → f (with_change (outside.without_monitors n) o v) ≡ f v) → IsAsItWas n v w → f w ≡ f v
 kept f n v w same (inl is) = ap f is
 kept f n v w same (inr is) = ap f is ∙ same v.dist
 
-alive_kept : (n : Node) (v : LiveView) (o : Option DistView) → is_alive (with_change (outside.without_monitors n) o v) ≡ is_alive v
+pub alive_kept : (n : Node) (v : LiveView) (o : Option DistView) → is_alive (with_change (outside.without_monitors n) o v) ≡ is_alive v
 alive_kept n v None = refl
 alive_kept n v (Some d) = refl
 
-ending_kept : (soon : Bool) (n : Node) (v : LiveView) (o : Option DistView)
+pub ending_kept : (soon : Bool) (n : Node) (v : LiveView) (o : Option DistView)
     → (is_ending (with_change (outside.without_monitors n) o v) && (soon || not (with_change (outside.without_monitors n) o v).is_stopped))
     ≡ (is_ending v && (soon || not v.is_stopped))
 ending_kept soon n v None = refl
@@ -173,7 +173,7 @@ unoccupied_by n v (Some e) d is free has =
     subst IsUnoccupied (same_Some (outside.without_monitors n e) d has)
     (record { stand = so.stand; mail = so.mail; permits = so.permits; parked = so.parked })
 
-unoccupied : (n : Node) (v w : LiveView) (d : DistView) → IsAsItWas n v w → ((e : DistView) → v.dist ≡ Some e → IsUnoccupied e)
+pub unoccupied : (n : Node) (v w : LiveView) (d : DistView) → IsAsItWas n v w → ((e : DistView) → v.dist ≡ Some e → IsUnoccupied e)
     → w.dist ≡ Some d → IsUnoccupied d
 unoccupied n v w d (inl is) free has = free d (sym (ap (λ (x : LiveView). x.dist) is) ∙ has)
 unoccupied n v w d (inr is) free has = unoccupied_by n v v.dist d refl free (sym (ap (λ (x : LiveView). x.dist) is) ∙ has)

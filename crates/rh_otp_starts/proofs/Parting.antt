@@ -73,7 +73,7 @@ parting_left {lives} {c} {told} s e left f taken = record {
 
 -- ---- a node has acted
 
-abbrev ends_by : Bool → LiveView → Bool
+abbrev pub ends_by : Bool → LiveView → Bool
 ends_by soon v = is_ending v && (soon || not v.is_stopped)
 
 pub waits_acted : {lives : Node → ℕ} {c : Call} {l : List Envelope} {K : Envelope → Type 0} (m : Node) (s t : SystemView)

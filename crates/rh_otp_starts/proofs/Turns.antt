@@ -226,11 +226,11 @@ stops_each n ((a, place_of.Here) ∷ rows) t of_node said =
 stops_each n ((a, place_of.At m) ∷ rows) t of_node said = stops_each n rows t of_node said
 stops_each n ((a, place_of.Nowhere) ∷ rows) t of_node said = stops_each n rows t of_node said
 
-timed_by : (b : Bool) (timers : List Timer) (s : SystemView) → cond b (record s { timers = timers }) s ≡ record s { timers = cond b timers s.timers }
+pub timed_by : (b : Bool) (timers : List Timer) (s : SystemView) → cond b (record s { timers = timers }) s ≡ record s { timers = cond b timers s.timers }
 timed_by true timers s = refl
 timed_by false timers s = refl
 
-never_both : (b : Bool) → (b && false) ≡ false
+pub never_both : (b : Bool) → (b && false) ≡ false
 never_both true = refl
 never_both false = refl
 
