@@ -1,0 +1,2 @@
+pub mod Return
+mod Rows
