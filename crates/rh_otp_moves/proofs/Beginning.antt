@@ -44,7 +44,7 @@ use Rattle.rh_otp_moves.proofs.Telling.{Begins, IsAbroad, hears, told_to}
 use Rattle.rh_otp_moves.proofs.Telling as telling
 use Rattle.rh_otp_moves.proofs.Abroad.{Going, going_left}
 use Rattle.rh_otp_moves.proofs.Late.{IsLate, answers, abroad, its_answer}
-use Rattle.rh_otp_moves.proofs.Chain.{home_of, it_changes, it_reports, it_runs, IsStart, starts, takes_over, fails_over, AskedAlone, IsLink, report, Waiting, Advanced, advanced_lost, advanced_over, advanced_next, Controlled, controls_home, Handled, handles_home}
+use Rattle.rh_otp_moves.proofs.Chain.{home_of, it_changes, it_reports, it_runs, IsStart, starts, AskedAlone, IsLink, report, Waiting, Advanced, advanced_lost, advanced_over, advanced_next, Controlled, controls_home, Handled, handles_home}
 use Rattle.rh_otp_moves.proofs.Chain as chain
 use Rattle.rh_otp_moves.proofs.Saying.{Begun, nothing, runs, spawns, told_runs, told_started, changes, reports}
 
@@ -117,12 +117,12 @@ start_comes k s rest what f waits kinds allowed is = by (cases_Bool (is_alive_at
     u = received x (turn_at s k.call.node)
 
     on : is_alive_at s k.call.node ≡ true → Begun a (turn_at s k.call.node) u → Advanced k s t
-    on alive (nothing turned kept) = goes_on k s rest x [] f waits kinds allowed alive turned (inl refl)
-    on alive (runs turned kept) =
+    on alive (nothing turned) = goes_on k s rest x [] f waits kinds allowed alive turned (inl refl)
+    on alive (runs turned) =
         let e : Envelope = told_runs a (turn_at s k.call.node) None in
         goes_on k s rest x (e ∷ []) f waits kinds allowed alive turned
         (inr (e, refl, subst (IsLink k u.state) (sym (told_runs_so k s None f)) (chain.run allowed None)))
-    on alive (spawns error is turned asked kept) =
+    on alive (spawns error turned asked) =
         let e : Envelope = told_started a (turn_at s k.call.node) error in
         goes_on k s rest x (e ∷ []) f waits kinds allowed alive turned
         (inr (e, refl, subst (IsLink k u.state) (sym (told_started_so k s error f)) (report allowed error asked)))
@@ -158,7 +158,7 @@ report_comes k s rest error f waits kinds allowed asked = by (cases_Bool (is_ali
         (inr (e, refl, subst (IsLink k u.state) (sym (told_runs_so k s error f)) (chain.run allowed error)))
 
     by : (is_alive_at s k.call.node ≡ true) ⊎ (is_alive_at s k.call.node ≡ false) → Advanced k s t
-    by (inl alive) = on alive (reports a error (turn_at s k.call.node) asked waits.listed).0
+    by (inl alive) = on alive (reports a error (turn_at s k.call.node) asked waits.listed)
     by (inr dead) = advanced_lost k s t rest f kinds (arrives_dead (it_reports k error).to x (without s rest) dead)
 
 -- ---- the dist_ac

@@ -37,8 +37,8 @@ use Rattle.rh_otp_starts.proofs.Turns.{IsSaid, Carried, carries_said, controller
 use Rattle.rh_otp_permits.specs.Permits.{is_begun}
 use Rattle.rh_otp_permits.proofs.Asking.{Says, nothing, says, first_answer, permit_says, waiting_call, told_call, its_permit, asked_second, goes_on}
 
--- The dist_ac is asked, and nothing else is on its way. The dist_acs and the other nodes are as they were before the call, and so is what
--- nodes see.
+-- The dist_ac is asked, and nothing else is on its way. The dist_acs and the other nodes are as they were before the call, and so are
+-- what nodes see, and whether the command waits for nodes that end.
 pub record Asked (lives : Node → ℕ) (c : Call) (allow only : Bool) (b s : SystemView) : Type 0 where
   pub messages : s.messages ≡ its_permit allow only c ∷ []
   pub slow : s.slow ≡ []
@@ -56,21 +56,21 @@ pub record Asked (lives : Node → ℕ) (c : Call) (allow only : Bool) (b s : Sy
   pub awake : (m : Node) → is_alive_at s m ≡ is_alive_at b m
   pub dist : (m : Node) → (node_at s m).dist ≡ (node_at b m).dist
   pub others : (m : Node) → m.0 ≢ c.node.0 → node_at s m ≡ node_at b m
-  pub cluster : s.cluster ≡ b.cluster
+  pub soon : s.ends_soon ≡ b.ends_soon
 
--- the cluster is as it was behind a controller's turn
-cluster_kept : {lives : Node → ℕ} {c : Call} {l : List Envelope} (life : ℕ) (x : Message) (s : SystemView) → Waits lives c true l s
+-- a controller's turn is nothing to how the command ends
+soon_kept : {lives : Node → ℕ} {c : Call} {l : List Envelope} (life : ℕ) (x : Message) (s : SystemView) → Waits lives c true l s
     → lives c.node ≡ life → is_alive_at s c.node ≡ true → All (IsSaid c.node) (received x (turn_at s c.node)).out
-    → (arrived (controller_of c.node life) x (without s [])).cluster ≡ s.cluster
+    → (arrived (controller_of c.node life) x (without s [])).ends_soon ≡ s.ends_soon
 unfolding controlled_by
-cluster_kept {lives} {c} {l} life x s f same alive said =
+soon_kept {lives} {c} {l} life x s f same alive said =
     let n : Node = c.node in
     let q : SystemView = without s [] in
     let u : ControllerTurn = received x (turn_at s n) in
     let old : LiveView = node_at s n in
     let done : Carried n q (record old { controller = u.state }) u.out =
     carries_said n u.out q old (record old { controller = u.state }) (there_is s n alive) said in
-    ap (λ (y : SystemView). y.cluster) (arrives_alive (controller_of n life) x q alive (f.same_lives n ∙ same) ∙ done.is)
+    ap (λ (y : SystemView). y.ends_soon) (arrives_alive (controller_of n life) x q alive (f.same_lives n ∙ same) ∙ done.is)
 
 -- a controller's turn is nothing to other nodes
 others_kept : {lives : Node → ℕ} {c : Call} {l : List Envelope} (life : ℕ) (x : Message) (s : SystemView) → Waits lives c true l s
@@ -174,7 +174,7 @@ call_orderly {lives} {c} {allow} s f calls none listed synchronised next =
           awake = on.awake;
           dist = λ m. dist_at m (cases_eq m.0 n.0);
           others = λ m other. others_kept c.life e.message s f (sym f.life) up said m other;
-          cluster = cluster_kept c.life e.message s f (sym f.life) up said;
+          soon = soon_kept c.life e.message s f (sym f.life) up said;
         }
 
     by : (is_alive_at s n ≡ true) ⊎ (is_alive_at s n ≡ false) → Says (waiting_call allow c) t u → IsOrderly q

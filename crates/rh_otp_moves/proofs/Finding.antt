@@ -59,7 +59,7 @@ use Rattle.rh_otp_moves.proofs.Away.{IsAway, late, own_news, away_orderly}
 -- ---- the dist_ac's turn
 
 -- its controller is told where it runs, the caller is answered, and else its state is as before
-abbrev found_over : App → Node → Process → TurnView → TurnView
+abbrev pub found_over : App → Node → Process → TurnView → TurnView
 found_over a j p t =
     let u : TurnView = noted_so a false t in
     record t {
@@ -72,13 +72,13 @@ found_over a j p t =
     }
 
 -- where it finds it
-abbrev IsFound : OwnView → Node → App → DistView → Node → Type 0
+abbrev pub IsFound : OwnView → Node → App → DistView → Node → Type 0
 IsFound own n a d j =
     ((is_among n (candidates_at own a d) ≡ true) × (first_of (candidates_at own a d) (places_of own a) ≡ Some j)
     × (runs_there d a j ≡ true))
     ⊎ ((is_among n (candidates_at own a d) ≡ false) × (remote d a ≡ Some j))
 
-finds_it : (a : App) (j : Node) (p : Process) (t : TurnView)
+pub finds_it : (a : App) (j : Node) (p : Process) (t : TurnView)
     → IsFound t.own t.here.node a (with_permission t.here.node a true t.state) j
     → start_distributed (its_attempt a p (noted_so a false t)) (noted_so a false t) ≡ found_over a j p t
 unfolding start_distributed find_start_node runs_elsewhere finish

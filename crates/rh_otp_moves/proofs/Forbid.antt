@@ -49,7 +49,7 @@ use Rattle.rh_otp_moves.proofs.Permitting.{Before, news_of, behind_it, told_all,
 -- ---- the dist_ac's turn
 
 -- the others are told, and its controller is to stop it, for which the call waits
-abbrev stops_over : App → Process → TurnView → TurnView
+abbrev pub stops_over : App → Process → TurnView → TurnView
 stops_over a p t = record t {
   state = record (with_permission t.here.node a false t.state) { s_reqs = (a, p) ∷ t.state.s_reqs };
   out = (t.out ++ posts t.here.node (message.NewPermission t.here.node a false true) (backwards t.own a)) ++ output.Send (record {
@@ -59,7 +59,7 @@ stops_over a p t = record t {
   }) ∷ [];
 }
 
-stops_so : (a : App) (p : Process) (t : TurnView) → standing_of t.state a ≡ standing.Local
+pub stops_so : (a : App) (p : Process) (t : TurnView) → standing_of t.state a ≡ standing.Local
     → permitted (with_permission t.here.node a false t.state) a ≡ [] → dist.permit a false false p t ≡ stops_over a p t
 unfolding dist.permit
 stops_so a p t local nobody =

@@ -176,14 +176,14 @@ stop_comes k s rest f waits kinds forbidden = by (cases_Bool (is_alive_at s n))
 -- ---- the dist_ac
 
 -- the caller is answered, the others are told, and nobody waits any more
-abbrev halted : App → Process → TurnView → TurnView
+abbrev pub halted : App → Process → TurnView → TurnView
 halted a p t = record t {
   state = record (with_standing a standing.Undefined t.state) { t_reqs = []; s_reqs = [] };
   out = (t.out ++ output.Send (record { from = process_at t.here role.DistAc; to = p; message = message.Answer Done }) ∷ [])
       ++ posts t.here.node (message.AppStopped a) t.state.known;
 }
 
-halted_so : (a : App) (p : Process) (t : TurnView) → t.state.t_reqs ≡ [] → t.state.s_reqs ≡ (a, p) ∷ []
+pub halted_so : (a : App) (p : Process) (t : TurnView) → t.state.t_reqs ≡ [] → t.state.s_reqs ≡ (a, p) ∷ []
     → standing_of t.state a ≡ standing.Local → not_run a t ≡ halted a p t
 unfolding not_run answer_ends del_t_reqs
 halted_so a p t none one local =

@@ -1,7 +1,8 @@
 -- A call that forbids a distributed application by which that moves to another node, where nodes were at rest.
-use Rattle.std.proofs.Common.{◌≡◌, ◌≢◌, ◌++◌, ◌==◌, ◌&&◌, ◌||◌, ℕ, Bool, true, false, not, cond, List, [], ◌∷◌, Some, None, refl, sym, ap, subst, ◌∙◌, inl, inr}
+use Rattle.std.proofs.Common.{◌≡◌, ◌≢◌, ◌++◌, ◌==◌, ◌&&◌, ◌||◌, ℕ, Bool, true, false, not, cond, List, [], ◌∷◌, Some, refl, sym, ap, subst, ◌∙◌, inl, inr}
 use Rattle.std.specs.Prelude.{filter, map}
 use Rattle.std.proofs.lemmas.Bool.{false≢true}
+use Rattle.std.proofs.lemmas.List.Elements.{filter_passes}
 use Rattle.std.proofs.lemmas.Option.{same_Some}
 use Rattle.rh_model.specs.declared.node.App.{App}
 use Rattle.rh_model.specs.declared.node.Node.{Node}
@@ -11,7 +12,6 @@ use Rattle.rh_otp_model.specs.declared.output.Envelope.{Envelope}
 use Rattle.rh_otp_model.specs.declared.process.Process.{Process}
 use Rattle.rh_otp_model.specs.declared.wait.OwnFile.{OwnFile}
 use Rattle.rh_otp_model.specs.Own.{controls}
-use Rattle.rh_otp_controller.specs.Starting.{lacks_running}
 use Rattle.rh_otp_dist.specs.declared.state.Stand.TheVariants as stand
 use Rattle.rh_otp_dist.specs.declared.state.Standing.{Standing}
 use Rattle.rh_otp_dist.specs.Calls.{forbid_here, permit_by}
@@ -21,7 +21,6 @@ use Rattle.rh_otp_dist.specs.State.{DistView, TurnView, is_among, may_run, permi
 use Rattle.rh_otp_dist.specs.Told.{is_local, with_waits}
 use Rattle.rh_otp_net.specs.Links.{are_linked}
 use Rattle.rh_otp_node.specs.Live.{LiveView, is_alive}
-use Rattle.rh_otp_node.specs.Turns.{controller_turn}
 use Rattle.rh_otp_system.specs.declared.calls.Ask.TheVariants as ask
 use Rattle.rh_otp_system.specs.declared.calls.Call.{Call}
 use Rattle.rh_otp_system.specs.declared.calls.Stage.TheVariants as stage
@@ -33,6 +32,7 @@ use Rattle.rh_otp_system.specs.Doing.{call_of}
 use Rattle.rh_otp_system.specs.State.{SystemView, has_dist_at, node_at, with_node, is_alive_at}
 use Rattle.rh_otp_laws.proofs.Nodes.{others_same, same_of_all}
 use Rattle.rh_otp_orders.specs.Confluence.{IsOrderly}
+use Rattle.rh_otp_orders.proofs.Taking.{Taken}
 use Rattle.rh_otp_crashes.specs.Crashes.{IsUnoccupied}
 use Rattle.rh_otp_crashes.proofs.Crash.{lives_of}
 use Rattle.rh_otp_crashes.proofs.Peace.{arrives_alive, without}
@@ -42,12 +42,13 @@ use Rattle.rh_otp_locks.proofs.Locks.{none_at_rest}
 use Rattle.rh_otp_stops.proofs.Stopping.{there_is}
 use Rattle.rh_otp_starts.proofs.Start.{over_before, asked_so, command_alike}
 use Rattle.rh_otp_permits.proofs.Asking.{first_answer, its_permit, told_call}
-use Rattle.rh_otp_moves.specs.Moving.{LeavesIt, TakesIt, ForbidsThatMoveEndAlike, told_of}
+use Rattle.rh_otp_moves.specs.Moving.{LeavesIt, TakesIt, NotesIt, ForbidsThatMoveEndAlike, told_of}
 use Rattle.rh_otp_moves.proofs.Calling.{Asked, call_orderly}
 use Rattle.rh_otp_moves.proofs.Taking.{asked_orderly}
 use Rattle.rh_otp_moves.proofs.Holding.{Holding, IsHeldUp, holding_on}
-use Rattle.rh_otp_moves.proofs.Handing.{Handed}
-use Rattle.rh_otp_moves.proofs.Hearing.{its_news, news_orderly}
+use Rattle.rh_otp_moves.proofs.Handing.{Handed, its_note, linked, news}
+use Rattle.rh_otp_moves.proofs.Splitting.{Split, all_notes, all_among, told_others, splits}
+use Rattle.rh_otp_moves.proofs.Together.{moving_orderly}
 
 -- ---- the dist_ac's turn
 
@@ -105,29 +106,37 @@ record Can (c : Call) (b : SystemView) (m : Node) : Type 0 where
   listed : controls (own_in b.files c.node) c.app ≡ true
   sees_list : (j : Node) → is_among j (backwards (own_in b.files c.node) c.app) ≡ true → is_alive_at b j ≡ true
       → (c.node.0 == j.0 || are_linked c.node j b.links) ≡ true
-  alone : told_of c.node c.app b ≡ m ∷ []
+  once : filter (λ j. j.0 == m.0) (told_of c.node c.app b) ≡ m ∷ []
   takes : (d : DistView) → (node_at b m).dist ≡ Some d → d.stand ≡ stand.Idle → may_run d m c.app ≡ true
       → TakesIt (own_in b.files m) c.node m c.app d
   takeovers : (d : DistView) → (node_at b m).dist ≡ Some d → d.t_reqs ≡ []
   sees : (d : DistView) → (node_at b m).dist ≡ Some d → (j : Node) → is_among j d.known ≡ true → is_alive_at b j ≡ true
       → (m.0 == j.0 || are_linked m j b.links) ≡ true
-  needs : lacks_running (controller_turn b.cluster (own_in b.files m) m (node_at b m)) c.app ≡ None
+  soon : b.ends_soon ≡ false
+  others : (j : Node) (d : DistView) → j.0 ≢ m.0 → is_among j (told_of c.node c.app b) ≡ true → (node_at b j).dist ≡ Some d
+      → NotesIt (own_in b.files j) j c.app d
 
 move_orderly : {lives : Node → ℕ} {c : Call} {b : SystemView} {m : Node} (s : SystemView) (d : DistView)
     → Asked lives c false false b s → Can c b m → is_alive_at s c.node ≡ true → (node_at s c.node).dist ≡ Some d → d.stand ≡ stand.Idle
     → LeavesIt c.node m c.app d
     → IsOrderly (arrived (its_permit false false c).to (its_permit false false c).message (without s []))
 move_orderly {lives} {c} {b} {m} s d f g alive has is r =
-    news_orderly next handed
-    (λ y there idle may. subst (λ (files : List OwnFile). TakesIt (own_in files m) n m a y) (sym files_so)
-    (g.takes y (before y there) idle may))
-    (λ y there. g.takeovers y (before y there))
-    (λ y there j among up.
-    ap (λ (z : SystemView). m.0 == j.0 || are_linked m j z.links) came
-    ∙ ap (λ (linked : Bool). m.0 == j.0 || linked) (f.same_links m j)
-    ∙ g.sees y (before y there) j among (sym (up_so j) ∙ up))
-    ((λ i. lacks_running (controller_turn (cluster_so i) (own_in (files_so i) m) m (node_so i)) a) ∙ g.needs)
-    (ap (λ (z : SystemView). z.messages) came ∙ one)
+    moving_orderly next (linked (record {
+      handed = handed;
+      message = its_note lives asks m;
+      link = news (record {
+        takes = λ y there idle may. subst (λ (files : List OwnFile). TakesIt (own_in files m) n m a y) (sym files_so)
+            (g.takes y (before m g.other y there) idle may);
+        takeovers = λ y there. g.takeovers y (before m g.other y there);
+        sees = λ y there j among up.
+            ap (λ (z : SystemView). m.0 == j.0 || are_linked m j z.links) came
+            ∙ ap (λ (linked : Bool). m.0 == j.0 || linked) (f.same_links m j)
+            ∙ g.sees y (before m g.other y there) j among (sym (up_so j) ∙ up);
+      });
+      rest = parts.rest;
+      taken = subst (λ (l : List Envelope). Taken (its_note lives asks m) l parts.rest) (sym sent_so) parts.taken;
+      kinds = parts.kinds;
+    }))
   where
     n : Node
     n = c.node
@@ -138,8 +147,11 @@ move_orderly {lives} {c} {b} {m} s d f g alive has is r =
     p : Process
     p = process_of c
 
-    told : Call
-    told = told_call false false c
+    asks : Call
+    asks = told_call false false c
+
+    told : List Node
+    told = told_of n a b
 
     q : SystemView
     q = without s []
@@ -180,35 +192,43 @@ move_orderly {lives} {c} {b} {m} s d f g alive has is r =
         ∙ g.sees_list j (ap (λ (files : List OwnFile). is_among j (backwards (own_in files n) a)) (sym f.files) ∙ among)
         (sym (same_of_all is_alive s n j new refl ∙ f.awake j) ∙ up))
 
-    one : mails lives written n y list ≡ its_news lives told m ∷ []
-    one =
-        mails_told lives written n y list
+    sent_so : next.messages ≡ all_notes lives asks told
+    sent_so =
+        ap (λ (z : SystemView). z.messages) came
+        ∙ mails_told lives written n y list
         ∙ (λ i. map (posted_to lives n y) (filter (λ (j : Node). not (j.0 == n.0)
         && ((same_of_all is_alive s n j new refl ∙ f.awake j) i && (own_in (f.files i) j).has_dist)) (backwards (own_in (f.files i) n) a)))
-        ∙ ap (map (posted_to lives n y)) g.alone
 
-    hold : Holding lives told next
+    parts : Split lives asks m told (all_notes lives asks told)
+    parts =
+        splits told (told_others asks told (λ j. is_alive_at b j && has_dist_at b j) told (all_among told)
+        (filter_passes (λ (j : Node). not (j.0 == n.0) && (is_alive_at b j && has_dist_at b j)) (backwards (own_in b.files n) a))) g.once
+
+    hold : Holding lives asks m told next
     hold = holding_on n (mails lives written n y list) s.timers s.events new q next
         (record {
           slow = f.slow;
+          soon = f.soon ∙ g.soon;
           dists = λ j x up there. inl (f.dists j x up there);
-          ends = f.ends;
+          ends = λ j up other. f.ends j up;
           among = f.among;
           same_lives = f.same_lives;
           stage = stage.DistAc;
           calls = f.calls;
           waits = λ call x. refl;
           life = f.life;
+          tame = λ j x other up there. subst (λ (files : List OwnFile). NotesIt (own_in files j) j a x) (sym f.files)
+              (g.others j x other.0 other.2 (sym (f.dist j) ∙ there));
         })
         (record {
           there = there_is s n alive;
           life = refl;
           phase = refl;
-          ending = refl;
-          stopped = refl;
+          ending = λ other. refl;
+          stopped = λ other. refl;
           rest = λ x there. inr (
             refl,
-            subst (IsHeldUp told) (same_Some over.state x there) (record {
+            subst (IsHeldUp asks) (same_Some over.state x there) (record {
               idle = refl;
               mail = refl;
               parked = free.parked;
@@ -218,25 +238,22 @@ move_orderly {lives} {c} {b} {m} s d f g alive has is r =
               rows = ap (λ rows. (a, record { caller = p; nodes = permitted (with_permission n a false t.state) a }) ∷ rows) free.permits;
             }),
           );
+          tame = λ other x there. absurd (other.1 refl);
         })
         came
 
     files_so : next.files ≡ b.files
     files_so = ap (λ (z : SystemView). z.files) came ∙ f.files
 
-    cluster_so : next.cluster ≡ b.cluster
-    cluster_so = ap (λ (z : SystemView). z.cluster) came ∙ f.cluster
-
     up_so : (j : Node) → is_alive_at next j ≡ is_alive_at b j
     up_so j = ap (λ (z : SystemView). is_alive_at z j) came ∙ same_of_all is_alive s n j new refl ∙ f.awake j
 
-    node_so : node_at next m ≡ node_at b m
-    node_so = ap (λ (z : SystemView). node_at z m) came ∙ others_same q n m new g.other ∙ f.others m g.other
+    before : (j : Node) → j.0 ≢ n.0 → (x : DistView) → (node_at next j).dist ≡ Some x → (node_at b j).dist ≡ Some x
+    before j other x there =
+        sym (ap (λ (v : LiveView). v.dist)
+        (ap (λ (z : SystemView). node_at z j) came ∙ others_same q n j new other ∙ f.others j other)) ∙ there
 
-    before : (x : DistView) → (node_at next m).dist ≡ Some x → (node_at b m).dist ≡ Some x
-    before x there = sym (ap (λ (v : LiveView). v.dist) node_so) ∙ there
-
-    handed : Handed lives told m next
+    handed : Handed lives asks m told next
     handed = record {
       hold = hold;
       listed = ap (λ (files : List OwnFile). controls (own_in files n) a) files_so ∙ g.listed;
@@ -266,11 +283,12 @@ moves_alike s n a reached rest soon listed moves =
       other = moves.other;
       listed = listed;
       sees_list = moves.sees_list.sees;
-      alone = moves.alone;
+      once = moves.once;
       takes = moves.takes;
       takeovers = moves.sees_all.takeovers;
       sees = moves.sees_all.sees;
-      needs = moves.needs;
+      soon = soon;
+      others = moves.others;
     }
 
     so : {lives : Node → ℕ} (before : List Answered) (t : SystemView) → Asked lives c false false (asked_so before c s) t → IsOrderly t

@@ -26,7 +26,7 @@ use Rattle.rh_otp_moves.proofs.Beginning.{start_comes, report_comes, run_comes}
 
 -- ---- what there is on its way
 
-all_from : (P : Envelope → Type 0) (e : Envelope) (l left : List Envelope) → Taken e l left → P e → All P left → All P l
+pub all_from : (P : Envelope → Type 0) (e : Envelope) (l left : List Envelope) → Taken e l left → P e → All P left → All P l
 all_from P e [] left taken so all = absurd taken
 all_from P e (m ∷ l) left (inl here) so all = All-cons P m l (subst P (sym here.0) so) (subst (All P) here.1 all)
 all_from P e (m ∷ l) left (inr later) so all =

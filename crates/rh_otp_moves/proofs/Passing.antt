@@ -1,14 +1,15 @@
--- Another node has started the application: all others that its dist_ac knows are told, and their controllers; the dist_ac of the call's
--- node answers the call, and its controller stops the application.
+-- Another node has started the application, or has failed to: all others that its dist_ac knows are told, and their controllers; the
+-- dist_ac of the call's node answers the call, and its controller stops the application.
 use Rattle.std.proofs.Common.{◌≡◌, ◌≢◌, ◌⊎◌, ◌++◌, ◌&&◌, ℕ, Bool, true, false, not, cond, List, [], ◌∷◌, Option, Some, None, refl, sym, ap, subst, ◌∙◌, inl, inr}
 use Rattle.std.specs.Prelude.{All, filter}
 use Rattle.std.proofs.lemmas.Bool.{cases_Bool}
 use Rattle.std.proofs.lemmas.List.{append-nil}
 use Rattle.std.proofs.lemmas.List.Elements.{All-nil, All-cons, All-append, filter-append}
-use Rattle.std.proofs.lemmas.Option.{same_Some}
+use Rattle.std.proofs.lemmas.Option.{none-some, same_Some}
 use Rattle.rh_model.specs.ClusterView.{ClusterView}
 use Rattle.rh_model.specs.declared.node.App.{App}
 use Rattle.rh_model.specs.declared.node.Node.{Node}
+use Rattle.rh_model.specs.declared.settings.Dep.{Dep}
 use Rattle.rh_otp_model.specs.declared.fault.Outcome.{Outcome}
 use Rattle.rh_otp_model.specs.declared.fault.Outcome.TheVariants.{Done}
 use Rattle.rh_otp_model.specs.declared.message.Change.TheVariants as change_of
@@ -28,13 +29,13 @@ use Rattle.rh_otp_controller.specs.declared.state.Place.{Place}
 use Rattle.rh_otp_controller.specs.declared.state.Place.TheVariants as place_of
 use Rattle.rh_otp_controller.specs.State.{ControllerView}
 use Rattle.rh_otp_dist.specs.declared.state.Stand.TheVariants as stand
-use Rattle.rh_otp_dist.specs.declared.state.Standing.TheVariants as standing
 use Rattle.rh_otp_dist.specs.Attempts.{has_app}
 use Rattle.rh_otp_dist.specs.Sending.{answer}
 use Rattle.rh_otp_dist.specs.State.{DistView, TurnView, with_standing}
-use Rattle.rh_otp_dist.specs.Told.{add_remote, answer_permits, app_started, started_elsewhere, with_waits}
+use Rattle.rh_otp_dist.specs.Told.{add_remote, answer_permits, app_started, standing_at, started_elsewhere, with_waits}
 use Rattle.rh_otp_dist.specs.Views.{PermitWaitView}
-use Rattle.rh_otp_dist.specs.Waiting.{takes}
+use Rattle.rh_otp_dist.specs.Outside.{with_message}
+use Rattle.rh_otp_dist.specs.Waiting.{is_go, takes}
 use Rattle.rh_otp_net.specs.declared.timers.Timer.{Timer}
 use Rattle.rh_otp_node.specs.Live.{LiveView}
 use Rattle.rh_otp_system.specs.declared.calls.Call.{Call}
@@ -48,88 +49,100 @@ use Rattle.rh_otp_orders.specs.Orders.{LeavesAlone, SameOfEach, is_owner, node_t
 use Rattle.rh_otp_orders.proofs.Taking.{Taken}
 use Rattle.rh_otp_crashes.specs.Crashes.{IsUnoccupied}
 use Rattle.rh_otp_crashes.proofs.Carrying.{IsPlain, alarms, letters}
-use Rattle.rh_otp_crashes.proofs.Crossing.{for_controller, same_node}
+use Rattle.rh_otp_crashes.proofs.Crossing.{for_controller, for_dist, same_node}
 use Rattle.rh_otp_crashes.proofs.Peace.{here_in, without, arrives_alive, arrives_dead, taken_all, turned_so}
-use Rattle.rh_otp_crashes.proofs.Posting.{posted_to}
-use Rattle.rh_otp_crashes.proofs.Starting.{hears_of, moved, moved_by, moves_so, runs_there_now, seen_by, stops_at}
-use Rattle.rh_otp_crashes.proofs.Turning.{Changed, Turned, has_none, own_in, turn, weighing}
+use Rattle.rh_otp_crashes.proofs.Starting.{moved, moved_by, moves_so, runs_there_now, seen_by, stops_at}
+use Rattle.rh_otp_crashes.proofs.Turning.{Changed, Turned, idle, none_on, own_in, still_waits, turn, waits_on, weighing}
 use Rattle.rh_otp_stops.proofs.Answering.{answered_free}
 use Rattle.rh_otp_stops.proofs.Stopping.{there_is}
 use Rattle.rh_otp_starts.proofs.Parting.{message_comes}
 use Rattle.rh_otp_starts.proofs.Saying.{same_app}
 use Rattle.rh_otp_stops.proofs.Still.{Come}
 use Rattle.rh_otp_permits.proofs.Noting.{answer_of, answered_then}
+use Rattle.rh_otp_moves.specs.Moving.{NotesIt}
 use Rattle.rh_otp_moves.proofs.Still.{lost_leaves}
+use Rattle.rh_otp_moves.proofs.Others.{IsOther, noted_still, note_next, note_outs, note_turns, noting, start_next, start_tame, start_turns, told_start}
 use Rattle.rh_otp_moves.proofs.Holding.{IsHeldUp, Stands, Holding, Wrote, awake, held_comes, holding_left, holding_on}
 
 -- ---- the messages
-
-abbrev pub news : (Node → ℕ) → Call → Node → Node → Envelope
-news lives c m j = posted_to lives m (message.AppStarted m c.app None) j
 
 abbrev pub learned : (Node → ℕ) → Call → Node → Node → Envelope
 learned lives c m j =
     for_controller lives j (process_at (here_in lives j) role.DistAc) (message.Change c.app (change_of.Started m))
 
-pub data IsPassed (lives : Node → ℕ) (c : Call) (m : Node) : Envelope → Type 0 where
-  hears : (j : Node) → j.0 ≢ m.0 → IsPassed lives c m (news lives c m j)
-  moves : (j : Node) → j.0 ≢ m.0 → IsPassed lives c m (learned lives c m j)
-  answers : (o : Outcome) → is_known o ≡ false → IsPassed lives c m (answer_of lives c o)
+-- the call's node tells the others of the permission
+abbrev pub note : Call → Message
+note c = message.NewPermission c.node c.app false true
+
+-- what another node's dist_ac is told: by the one that has started the application, or has failed to; or by the call's, of the permission
+pub data IsHeard (lives : Node → ℕ) (c : Call) (m : Node) (told : List Node) (error : Option Dep) (j : Node) : Process → Message → Type 0
+  where
+    starts : j.0 ≢ m.0 → IsHeard lives c m told error j (process_at (here_in lives m) role.DistAc) (message.AppStarted m c.app error)
+    notes : IsOther c m told j → IsHeard lives c m told error j (process_at (here_in lives c.node) role.DistAc) (note c)
+
+pub data IsPassed (lives : Node → ℕ) (c : Call) (m : Node) (told : List Node) (error : Option Dep) : Envelope → Type 0 where
+  hears : (j : Node) (from : Process) (x : Message) → IsHeard lives c m told error j from x
+      → IsPassed lives c m told error (for_dist lives j from x)
+  moves : (j : Node) → j.0 ≢ m.0 → IsPassed lives c m told error (learned lives c m j)
+  answers : (o : Outcome) → is_known o ≡ false → IsPassed lives c m told error (answer_of lives c o)
 
 -- all messages are such; the call's node is alive, and has the application in its own `distributed`
-pub record Passing (lives : Node → ℕ) (c : Call) (m : Node) (s : SystemView) : Type 0 where
-  pub hold : Holding lives c s
-  pub kinds : All (IsPassed lives c m) s.messages
+pub record Passing (lives : Node → ℕ) (c : Call) (m : Node) (told : List Node) (error : Option Dep) (s : SystemView) : Type 0 where
+  pub hold : Holding lives c m told s
+  pub kinds : All (IsPassed lives c m told error) s.messages
   pub listed : controls (own_in s.files c.node) c.app ≡ true
   pub alive : is_alive_at s c.node ≡ true
 
 -- ---- a dist_ac hears of it
 
 -- at the call's node: its controller is told, and the caller is answered
-abbrev freed_over : App → Node → Process → TurnView → TurnView
-freed_over a m p t = record t {
-  state = record (with_standing a (standing.Distributed m) t.state) { tmp_weights = keydelete a t.state.tmp_weights; p_reqs = [] };
+abbrev freed_over : App → Node → Option Dep → Process → TurnView → TurnView
+freed_over a m error p t = record t {
+  state = record (with_standing a (standing_at m error) t.state) { tmp_weights = keydelete a t.state.tmp_weights; p_reqs = [] };
   out = (t.out ++ output.Send (runs_there_now a m t) ∷ [])
       ++ output.Send (record { from = process_at t.here role.DistAc; to = p; message = message.Answer Done }) ∷ [];
 }
 
-frees_so : (a : App) (m : Node) (p : Process) (w : PermitWaitView) (t : TurnView) → controls t.own a ≡ true
-    → has_app a t.state.started ≡ true → t.state.p_reqs ≡ (a, w) ∷ [] → w.caller ≡ p → app_started m a None t ≡ freed_over a m p t
+frees_so : (a : App) (m : Node) (error : Option Dep) (p : Process) (w : PermitWaitView) (t : TurnView) → controls t.own a ≡ true
+    → has_app a t.state.started ≡ true → t.state.p_reqs ≡ (a, w) ∷ [] → w.caller ≡ p → app_started m a error t ≡ freed_over a m error p t
 unfolding app_started answer_permits
-frees_so a m p w t listed started rows caller =
-    (λ i. cond (listed i && has_app a t.state.started) (started_elsewhere m a None t) (add_remote a m t))
-    ∙ (λ i. cond (started i) (started_elsewhere m a None t) (add_remote a m t))
-    ∙ (λ i. started_elsewhere m a None (record t { state = record t.state { p_reqs = rows i } }))
+frees_so a m error p w t listed started rows caller =
+    (λ i. cond (listed i && has_app a t.state.started) (started_elsewhere m a error t) (add_remote a m t))
+    ∙ (λ i. cond (started i) (started_elsewhere m a error t) (add_remote a m t))
+    ∙ (λ i. started_elsewhere m a error (record t { state = record t.state { p_reqs = rows i } }))
     ∙ ap (λ (b : Bool). with_waits (cond (not b) ((a, w) ∷ []) []) (cond b (answer w.caller Done told) told)) (same_app a)
     ∙ ap (λ (x : Process). with_waits [] (answer x Done told)) caller
   where
     told : TurnView
     told = record t {
-      state = record (with_standing a (standing.Distributed m) t.state) {
+      state = record (with_standing a (standing_at m error) t.state) {
         tmp_weights = keydelete a t.state.tmp_weights;
         p_reqs = (a, w) ∷ [];
       };
       out = t.out ++ output.Send (runs_there_now a m t) ∷ [];
     }
 
-held_turned : {lives : Node → ℕ} {c : Call} {m : Node} (s : SystemView) (d : DistView) → Passing lives c m s → m.0 ≢ c.node.0
+held_turned : {lives : Node → ℕ} {c : Call} {m : Node} {told : List Node} {error : Option Dep} (s : SystemView) (d : DistView)
+    → Passing lives c m told error s
+    → m.0 ≢ c.node.0
     → (node_at s c.node).dist ≡ Some d → IsHeldUp c d
-    → Turned (IsPassed lives c m) s.cluster s.files c.node (lives c.node) (message.AppStarted m c.app None) (node_at s c.node).dist
-held_turned {lives} {c} {m} s d f other had held =
+    → Turned (IsPassed lives c m told error) s.cluster s.files c.node (lives c.node) (message.AppStarted m c.app error)
+    (node_at s c.node).dist
+held_turned {lives} {c} {m} {told} {error} s d f other had held =
     let n : Node = c.node in
     let a : App = c.app in
     let p : Process = process_of c in
-    let K : Envelope → Type 0 = IsPassed lives c m in
+    let K : Envelope → Type 0 = IsPassed lives c m told error in
     let t : TurnView = turn s.cluster (own_in s.files n) n (lives n) d in
-    let over : TurnView = freed_over a m p t in
+    let over : TurnView = freed_over a m error p t in
     let e : Envelope = learned lives c m n in
     let y : Envelope = answer_of lives c Done in
     record {
       next = Some over.state;
       outs = over.out;
       comes = λ q v there has same in_cluster in_files.
-          held_comes n (message.AppStarted m a None) d over (lives n) s q v held.idle held.mail refl
-          (λ w. frees_so a m p held.wait (weighing w t) f.listed held.started held.rows held.caller) there (has ∙ had) same in_cluster
+          held_comes n (message.AppStarted m a error) d over (lives n) s q v held.idle held.mail refl
+          (λ w. frees_so a m error p held.wait (weighing w t) f.listed held.started held.rows held.caller) there (has ∙ had) same in_cluster
           in_files;
       plain = All-cons IsPlain (output.Send e) (output.Send y ∷ []) tt (All-cons IsPlain (output.Send y) [] tt (All-nil IsPlain));
       kinds = All-cons K e (y ∷ []) (moves n (λ one. other (sym one))) (All-cons K y [] (answers Done refl) (All-nil K));
@@ -141,29 +154,119 @@ held_turned {lives} {c} {m} s d f other had held =
       });
     }
 
-pub turned_at : {lives : Node → ℕ} {c : Call} {m : Node} (s : SystemView) (j : Node) → Passing lives c m s → j.0 ≢ m.0
-    → is_alive_at s j ≡ true
-    → Turned (IsPassed lives c m) s.cluster s.files j (lives j) (message.AppStarted m c.app None) (node_at s j).dist
-turned_at {lives} {c} {m} s j f other alive = by (node_at s j).dist refl
+-- what it does, and that those that take no part go on so
+pub record Heard (lives : Node → ℕ) (c : Call) (m : Node) (told : List Node) (error : Option Dep) (s : SystemView) (j : Node) (x : Message)
+    (o : Option DistView) : Type 0 where
+  pub turned : Turned (IsPassed lives c m told error) s.cluster s.files j (lives j) x o
+  pub tame : IsOther c m told j → (d : DistView) → turned.next ≡ Some d → NotesIt (own_in s.files j) j c.app d
+
+heard_none : {lives : Node → ℕ} {c : Call} {m : Node} {told : List Node} {error : Option Dep} (s : SystemView) (j : Node) (x : Message)
+    → Heard lives c m told error s j x None
+heard_none {lives} {c} {m} {told} {error} s j x = record {
+  turned = record {
+    next = None;
+    outs = [];
+    comes = λ q v there none same in_cluster in_files. none_on j x q v there none;
+    plain = All-nil IsPlain;
+    kinds = All-nil (IsPassed lives c m told error);
+    rest = λ d is. absurd (none-some d is);
+  };
+  tame = λ other d is. absurd (none-some d is);
+}
+
+-- it keeps what comes
+heard_waiting : {lives : Node → ℕ} {c : Call} {m : Node} {told : List Node} {error : Option Dep} (s : SystemView) (j : Node) (x : Message)
+    (d : DistView) → IsUnoccupied d → d.stand ≡ stand.ForGo → is_go x ≡ false
+    → (IsOther c m told j → NotesIt (own_in s.files j) j c.app d) → Heard lives c m told error s j x (Some d)
+heard_waiting {lives} {c} {m} {told} {error} s j x d free is no_go tame = record {
+  turned = record {
+    next = Some (with_message x d);
+    outs = [];
+    comes = λ q v there has same in_cluster in_files. waits_on j x q v d there has free is no_go;
+    plain = All-nil IsPlain;
+    kinds = All-nil (IsPassed lives c m told error);
+    rest = λ y same. subst IsUnoccupied (same_Some (with_message x d) y same) (still_waits x d free is no_go);
+  };
+  tame = λ other y same. subst (NotesIt (own_in s.files j) j c.app) (same_Some (with_message x d) y same)
+      (record { idle = (tame other).idle; may_not = (tame other).may_not });
+}
+
+-- it is told of the start
+heard_start : {lives : Node → ℕ} {c : Call} {m : Node} {told : List Node} {error : Option Dep} (s : SystemView) (j : Node) (d : DistView)
+    → j.0 ≢ m.0 → IsUnoccupied d → (IsOther c m told j → NotesIt (own_in s.files j) j c.app d)
+    → Heard lives c m told error s j (message.AppStarted m c.app error) (Some d)
+heard_start {lives} {c} {m} {told} {error} s j d apart free tame =
+    let K : Envelope → Type 0 = IsPassed lives c m told error in
+    let over : DistView = (told_start c.app m error (turn s.cluster (own_in s.files j) j (lives j) d)).state in
+    elim free.stand [
+      | inl is ↦ record {
+        turned = start_turns K s.cluster s.files j (lives j) c.app m error d (moves j apart) free is;
+        tame = λ other y same. subst (NotesIt (own_in s.files j) j c.app)
+            (same_Some over y (sym (start_next K s.cluster s.files j (lives j) c.app m error d (moves j apart) free is) ∙ same))
+            (start_tame s.cluster (own_in s.files j) j (lives j) c.app m error d (tame other));
+      }
+      | inr is ↦ heard_waiting s j (message.AppStarted m c.app error) d free is refl tame
+    ]
+
+-- It is told of the permission, and sends nothing.
+abbrev pub IsQuiet : (Node → ℕ) → Call → Node → List Node → Option Dep → SystemView → Node → Option DistView → Type 0
+IsQuiet lives c m told error s j o = (h : Heard lives c m told error s j (note c) o) × (h.turned.outs ≡ [])
+
+quiet_none : {lives : Node → ℕ} {c : Call} {m : Node} {told : List Node} {error : Option Dep} (s : SystemView) (j : Node)
+    → IsQuiet lives c m told error s j None
+unfolding heard_none
+quiet_none {c = c} s j = (heard_none s j (note c), refl)
+
+quiet_note : {lives : Node → ℕ} {c : Call} {m : Node} {told : List Node} {error : Option Dep} (s : SystemView) (j : Node) (d : DistView)
+    → IsOther c m told j → IsUnoccupied d → NotesIt (own_in s.files j) j c.app d → IsQuiet lives c m told error s j (Some d)
+quiet_note {lives} {c} {m} {told} {error} s j d other free so =
+    let K : Envelope → Type 0 = IsPassed lives c m told error in
+    let over : DistView = noting (own_in s.files j) c.node c.app (idle d) in (
+      record {
+        turned = note_turns K s.cluster s.files j (lives j) c.node c.app d other.1 free so;
+        tame = λ _ y same. subst (NotesIt (own_in s.files j) j c.app)
+            (same_Some over y (sym (note_next K s.cluster s.files j (lives j) c.node c.app d other.1 free so) ∙ same))
+            (noted_still (own_in s.files j) c.node j c.app (idle d) other.1 (record { idle = refl; may_not = so.may_not }));
+      },
+      note_outs K s.cluster s.files j (lives j) c.node c.app d other.1 free so,
+    )
+
+pub noted_at : {lives : Node → ℕ} {c : Call} {m : Node} {told : List Node} {error : Option Dep} (s : SystemView) (j : Node)
+    → Holding lives c m told s → IsOther c m told j → is_alive_at s j ≡ true → IsQuiet lives c m told error s j (node_at s j).dist
+noted_at {lives} {c} {m} {told} {error} s j f other alive = by (node_at s j).dist refl
   where
-    K : Envelope → Type 0
-    K = IsPassed lives c m
-
-    x : Message
-    x = message.AppStarted m c.app None
-
-    stands : (d : DistView) → (node_at s j).dist ≡ Some d → Stands c j d → Turned K s.cluster s.files j (lives j) x (node_at s j).dist
+    stands : (d : DistView) → (node_at s j).dist ≡ Some d → Stands c j d → IsQuiet lives c m told error s j (node_at s j).dist
     stands d has (inl free) =
-        hears_of K s.cluster s.files j (lives j) c.app m (node_at s j).dist (moves j other)
-        (λ e had. subst IsUnoccupied (same_Some d e (sym has ∙ had)) free)
+        subst (IsQuiet lives c m told error s j) (sym has) (quiet_note s j d other free (f.tame j d other alive has))
+    stands d has (inr held) = absurd (other.1 held.0)
+
+    by : (o : Option DistView) → (node_at s j).dist ≡ o → IsQuiet lives c m told error s j (node_at s j).dist
+    by None has = subst (IsQuiet lives c m told error s j) (sym has) (quiet_none s j)
+    by (Some d) has = stands d has (f.dists j d alive has)
+
+pub heard_at : {lives : Node → ℕ} {c : Call} {m : Node} {told : List Node} {error : Option Dep} (s : SystemView) (j : Node) (from : Process)
+    (x : Message) → Passing lives c m told error s → IsHeard lives c m told error j from x → is_alive_at s j ≡ true
+    → Heard lives c m told error s j x (node_at s j).dist
+heard_at {lives} {c} {m} {told} {error} s j _ _ f (starts other) alive = by (node_at s j).dist refl
+  where
+    x : Message
+    x = message.AppStarted m c.app error
+
+    stands : (d : DistView) → (node_at s j).dist ≡ Some d → Stands c j d → Heard lives c m told error s j x (node_at s j).dist
+    stands d has (inl free) =
+        subst (Heard lives c m told error s j x) (sym has) (heard_start s j d other free (λ told. f.hold.tame j d told alive has))
     stands d has (inr held) =
         let one : c.node ≡ j = same_node c.node j (sym held.0) in
-        subst (λ (i : Node). Turned K s.cluster s.files i (lives i) x (node_at s i).dist) one
-        (held_turned s d f (λ same. other (held.0 ∙ sym same)) (ap (λ (i : Node). (node_at s i).dist) one ∙ has) held.1)
+        subst (λ (i : Node). Heard lives c m told error s i x (node_at s i).dist) one
+        (record {
+          turned = held_turned s d f (λ same. other (held.0 ∙ sym same)) (ap (λ (i : Node). (node_at s i).dist) one ∙ has) held.1;
+          tame = λ told. absurd (told.1 refl);
+        })
 
-    by : (o : Option DistView) → (node_at s j).dist ≡ o → Turned K s.cluster s.files j (lives j) x (node_at s j).dist
-    by None has = subst (Turned K s.cluster s.files j (lives j) x) (sym has) (has_none K s.cluster s.files j (lives j) x)
+    by : (o : Option DistView) → (node_at s j).dist ≡ o → Heard lives c m told error s j x (node_at s j).dist
+    by None has = subst (Heard lives c m told error s j x) (sym has) (heard_none s j x)
     by (Some d) has = stands d has (f.hold.dists j d alive has)
+heard_at s j _ _ f (notes other) alive = (noted_at s j f.hold other alive).0
 
 -- ---- a controller learns of it
 
@@ -235,28 +338,30 @@ swapped j a number o b end xs owner = by end o b
 -- ---- each comes
 
 -- it leaves alone what nodes share
-pub record CameOn (lives : Node → ℕ) (c : Call) (m : Node) (s t : SystemView) : Type 0 where
-  pub passing : Passing lives c m t
+pub record CameOn (lives : Node → ℕ) (c : Call) (m : Node) (told : List Node) (error : Option Dep) (s t : SystemView) : Type 0 where
+  pub passing : Passing lives c m told error t
   pub leaves : (n : Node) → LeavesAlone n s t
 
-came_lost : {lives : Node → ℕ} {c : Call} {m : Node} (s t : SystemView) (left : List Envelope) → Passing lives c m s
-    → All (IsPassed lives c m) left → t ≡ without s left → CameOn lives c m s t
-came_lost {lives} {c} {m} s t left f rest same = record {
-  passing = subst (Passing lives c m) (sym same)
+came_lost : {lives : Node → ℕ} {c : Call} {m : Node} {told : List Node} {error : Option Dep} (s t : SystemView) (left : List Envelope)
+    → Passing lives c m told error s → All (IsPassed lives c m told error) left → t ≡ without s left → CameOn lives c m told error s t
+came_lost {lives} {c} {m} {told} {error} s t left f rest same = record {
+  passing = subst (Passing lives c m told error) (sym same)
       (record { hold = holding_left s left f.hold; kinds = rest; listed = f.listed; alive = f.alive });
   leaves = λ n. lost_leaves n s t left same;
 }
 
-came_wrote : {lives : Node → ℕ} {c : Call} {m : Node} (j : Node) (s t : SystemView) (left more : List Envelope) (timers : List Timer)
-    (events : List Event) (new : LiveView) → Passing lives c m s → All (IsPassed lives c m) left → All (IsPassed lives c m) more
-    → Wrote c j (without s left) new
+came_wrote : {lives : Node → ℕ} {c : Call} {m : Node} {told : List Node} {error : Option Dep} (j : Node) (s t : SystemView)
+    (left more : List Envelope)
+    (timers : List Timer) (events : List Event) (new : LiveView) → Passing lives c m told error s → All (IsPassed lives c m told error) left
+    → All (IsPassed lives c m told error) more
+    → Wrote c m told j (without s left) new
     → t ≡ record (with_node j new (without s left)) { messages = left ++ more; timers = timers; events = events }
-    → CameOn lives c m s t
-came_wrote {lives} {c} {m} j s t left more timers events new f rest kinds w is = record {
+    → CameOn lives c m told error s t
+came_wrote {lives} {c} {m} {told} {error} j s t left more timers events new f rest kinds w is = record {
   passing = record {
     hold = holding_on j (left ++ more) timers events new (without s left) t (holding_left s left f.hold) w is;
-    kinds = subst (All (IsPassed lives c m)) (sym (ap (λ (x : SystemView). x.messages) is))
-        (All-append (IsPassed lives c m) left more rest kinds);
+    kinds = subst (All (IsPassed lives c m told error)) (sym (ap (λ (x : SystemView). x.messages) is))
+        (All-append (IsPassed lives c m told error) left more rest kinds);
     listed = ap (λ (x : SystemView). controls (own_in x.files c.node) c.app) is ∙ f.listed;
     alive = ap (λ (x : SystemView). is_alive_at x c.node) is ∙ awake (without s left) c.node w ∙ f.alive;
   };
@@ -264,43 +369,46 @@ came_wrote {lives} {c} {m} j s t left more timers events new f rest kinds w is =
       (record { links = refl; locks = refl; alive = λ i. awake (without s left) i w; answers = λ i app. inl refl });
 }
 
-pub heard_on : {lives : Node → ℕ} {c : Call} {m : Node} (s : SystemView) (j : Node) (left : List Envelope) → Passing lives c m s
-    → j.0 ≢ m.0 → Taken (news lives c m j) s.messages left
-    → CameOn lives c m s (arrived (news lives c m j).to (news lives c m j).message (without s left))
-heard_on {lives} {c} {m} s j left f other taken = by (cases_Bool (is_alive_at s j))
+pub heard_on : {lives : Node → ℕ} {c : Call} {m : Node} {told : List Node} {error : Option Dep} (s : SystemView) (j : Node) (from : Process)
+    (x : Message) (left : List Envelope) → Passing lives c m told error s → IsHeard lives c m told error j from x
+    → Taken (for_dist lives j from x) s.messages left
+    → CameOn lives c m told error s (arrived (process_at (here_in lives j) role.DistAc) x (without s left))
+heard_on {lives} {c} {m} {told} {error} s j from x left f said taken = by (cases_Bool (is_alive_at s j))
   where
-    e : Envelope
-    e = news lives c m j
+    to : Process
+    to = process_at (here_in lives j) role.DistAc
 
     q : SystemView
     q = without s left
 
-    rest : All (IsPassed lives c m) left
-    rest = (taken_all (IsPassed lives c m) e s.messages left taken f.kinds).1
+    rest : All (IsPassed lives c m told error) left
+    rest = (taken_all (IsPassed lives c m told error) (for_dist lives j from x) s.messages left taken f.kinds).1
 
-    by : (is_alive_at s j ≡ true) ⊎ (is_alive_at s j ≡ false) → CameOn lives c m s (arrived e.to e.message q)
+    by : (is_alive_at s j ≡ true) ⊎ (is_alive_at s j ≡ false) → CameOn lives c m told error s (arrived to x q)
     by (inl alive) =
-        let d = turned_at s j f other alive in
+        let h = heard_at s j from x f said alive in
+        let d = h.turned in
         let old : LiveView = node_at s j in
-        came_wrote j s _ left (letters d.outs)
-        (s.timers ++ alarms s.clock s.step (process_at (here_in lives j) role.DistAc) d.outs) s.events (record old { dist = d.next }) f rest
+        came_wrote j s _ left (letters d.outs) (s.timers ++ alarms s.clock s.step to d.outs) s.events (record old { dist = d.next }) f rest
         d.kinds
         (record {
           there = there_is s j alive;
           life = refl;
           phase = refl;
-          ending = refl;
-          stopped = refl;
-          rest = λ x has. inl (d.rest x has);
+          ending = λ apart. refl;
+          stopped = λ apart. refl;
+          rest = λ y has. inl (d.rest y has);
+          tame = h.tame;
         })
-        (arrives_alive e.to e.message q alive (f.hold.same_lives j)
-        ∙ turned_so j e.message s q old old.dist d (there_is s j alive) refl (f.hold.same_lives j) refl refl)
-    by (inr dead) = came_lost s _ left f rest (arrives_dead e.to e.message q dead)
+        (arrives_alive to x q alive (f.hold.same_lives j)
+        ∙ turned_so j x s q old old.dist d (there_is s j alive) refl (f.hold.same_lives j) refl refl)
+    by (inr dead) = came_lost s _ left f rest (arrives_dead to x q dead)
 
-pub learned_on : {lives : Node → ℕ} {c : Call} {m : Node} (s : SystemView) (j : Node) (left : List Envelope) → Passing lives c m s
-    → Taken (learned lives c m j) s.messages left
-    → CameOn lives c m s (arrived (learned lives c m j).to (learned lives c m j).message (without s left))
-learned_on {lives} {c} {m} s j left f taken = by (cases_Bool (is_alive_at s j))
+pub learned_on : {lives : Node → ℕ} {c : Call} {m : Node} {told : List Node} {error : Option Dep} (s : SystemView) (j : Node)
+    (left : List Envelope)
+    → Passing lives c m told error s → Taken (learned lives c m j) s.messages left
+    → CameOn lives c m told error s (arrived (learned lives c m j).to (learned lives c m j).message (without s left))
+learned_on {lives} {c} {m} {told} {error} s j left f taken = by (cases_Bool (is_alive_at s j))
   where
     e : Envelope
     e = learned lives c m j
@@ -308,22 +416,23 @@ learned_on {lives} {c} {m} s j left f taken = by (cases_Bool (is_alive_at s j))
     q : SystemView
     q = without s left
 
-    rest : All (IsPassed lives c m) left
-    rest = (taken_all (IsPassed lives c m) e s.messages left taken f.kinds).1
+    rest : All (IsPassed lives c m told error) left
+    rest = (taken_all (IsPassed lives c m told error) e s.messages left taken f.kinds).1
 
-    by : (is_alive_at s j ≡ true) ⊎ (is_alive_at s j ≡ false) → CameOn lives c m s (arrived e.to e.message q)
+    by : (is_alive_at s j ≡ true) ⊎ (is_alive_at s j ≡ false) → CameOn lives c m told error s (arrived e.to e.message q)
     by (inl alive) =
         let ch : Changed s.cluster s.files j e.message = changes_at s.cluster s.files j c.app m in
         let old : LiveView = node_at s j in
         let new : LiveView = record old { controller = ch.next old.controller } in
-        came_wrote j s _ left [] s.timers (s.events ++ ch.seen old.controller) new f rest (All-nil (IsPassed lives c m))
+        came_wrote j s _ left [] s.timers (s.events ++ ch.seen old.controller) new f rest (All-nil (IsPassed lives c m told error))
         (record {
           there = there_is s j alive;
           life = refl;
           phase = refl;
-          ending = ch.ending old.controller;
-          stopped = refl;
+          ending = λ apart. ch.ending old.controller;
+          stopped = λ apart. refl;
           rest = λ x has. f.hold.dists j x alive has;
+          tame = λ other x has. f.hold.tame j x other alive has;
         })
         (arrives_alive e.to e.message q alive (f.hold.same_lives j) ∙ ch.comes q old (there_is s j alive) refl refl
         ∙ (λ i. record (with_node j new q) {
@@ -333,18 +442,22 @@ learned_on {lives} {c} {m} s j left f taken = by (cases_Bool (is_alive_at s j))
         }))
     by (inr dead) = came_lost s _ left f rest (arrives_dead e.to e.message q dead)
 
-pub frees_call : {lives : Node → ℕ} {c : Call} (s : SystemView) (o : Outcome) → Holding lives c s → is_alive_at s c.node ≡ true
+pub frees_call : {lives : Node → ℕ} {c : Call} {m : Node} {told : List Node} (s : SystemView) (o : Outcome) → Holding lives c m told s
+    → is_alive_at s c.node ≡ true
     → is_known o ≡ false → arrived (process_of c) (message.Answer o) s ≡ answered_then c o s
 frees_call {c = c} s o f alive known = answered_free c f.stage o s f.calls known alive (f.same_lives c.node ∙ sym f.life)
 
-passing_comes : {lives : Node → ℕ} {c : Call} {m : Node} (s : SystemView) (e : Envelope) (left : List Envelope) → Passing lives c m s
-    → Taken e s.messages left → IsPassed lives c m e → Passing lives c m (arrived e.to e.message (without s left))
-passing_comes s _ left f taken (hears j other) = (heard_on s j left f other taken).passing
+passing_comes : {lives : Node → ℕ} {c : Call} {m : Node} {told : List Node} {error : Option Dep} (s : SystemView) (e : Envelope)
+    (left : List Envelope)
+    → Passing lives c m told error s
+    → Taken e s.messages left → IsPassed lives c m told error e → Passing lives c m told error (arrived e.to e.message (without s left))
+passing_comes s _ left f taken (hears j from x said) = (heard_on s j from x left f said taken).passing
 passing_comes s _ left f taken (moves j other) = (learned_on s j left f taken).passing
-passing_comes {lives} {c} {m} s _ left f taken (answers o known) =
-    subst (Passing lives c m) (sym (frees_call (without s left) o (holding_left s left f.hold) f.alive known)) (record {
+passing_comes {lives} {c} {m} {told} {error} s _ left f taken (answers o known) =
+    subst (Passing lives c m told error) (sym (frees_call (without s left) o (holding_left s left f.hold) f.alive known)) (record {
       hold = record {
         slow = f.hold.slow;
+        soon = f.hold.soon;
         dists = f.hold.dists;
         ends = f.hold.ends;
         among = f.hold.among;
@@ -353,16 +466,19 @@ passing_comes {lives} {c} {m} s _ left f taken (answers o known) =
         calls = refl;
         waits = λ call q. refl;
         life = f.hold.life;
+        tame = f.hold.tame;
       };
-      kinds = (taken_all (IsPassed lives c m) (answer_of lives c o) s.messages left taken f.kinds).1;
+      kinds = (taken_all (IsPassed lives c m told error) (answer_of lives c o) s.messages left taken f.kinds).1;
       listed = f.listed;
       alive = f.alive;
     })
 
-pub passing_goes_on : {lives : Node → ℕ} {c : Call} {m : Node} (s t : SystemView) → Passing lives c m s → (s.messages ≡ [] → ⊥)
-    → Delivers s t → Passing lives c m t
-passing_goes_on {lives} {c} {m} s t f some one =
+pub passing_goes_on : {lives : Node → ℕ} {c : Call} {m : Node} {told : List Node} {error : Option Dep} (s t : SystemView)
+    → Passing lives c m told error s
+    → (s.messages ≡ [] → ⊥)
+    → Delivers s t → Passing lives c m told error t
+passing_goes_on {lives} {c} {m} {told} {error} s t f some one =
     let come : Come s t = message_comes s t some one in
-    let kind : IsPassed lives c m come.message =
-    (taken_all (IsPassed lives c m) come.message s.messages come.left come.taken f.kinds).0 in
-    subst (Passing lives c m) (sym come.is) (passing_comes s come.message come.left f come.taken kind)
+    let kind : IsPassed lives c m told error come.message =
+    (taken_all (IsPassed lives c m told error) come.message s.messages come.left come.taken f.kinds).0 in
+    subst (Passing lives c m told error) (sym come.is) (passing_comes s come.message come.left f come.taken kind)

@@ -2,6 +2,8 @@
 -- before the second: one that the first may run alone, and runs; one that neither may; one that the second may run alone, and runs; and one
 -- that both may run, and the first runs.
 use Rattle.std.proofs.Common.{◌≡◌, ◌≢◌, ◌==◌, ◌||◌, ℕ, Bool, zero, suc, true, false, [], ◌∷◌, Some, None, refl, sym, ap, subst, ◌∙◌, inl, arith}
+use Rattle.std.specs.Prelude.{filter}
+use Rattle.std.proofs.lemmas.Bool.{false≢true, ne_eqb}
 use Rattle.rh_model.specs.ClusterView.{ClusterView, NodeView, AppView, app_numbered}
 use Rattle.rh_model.specs.declared.node.App.{App}
 use Rattle.rh_model.specs.declared.node.Node.{Node}
@@ -124,6 +126,17 @@ both_up = quiet (booted n2 one_up)
 
 -- ---- what the prover computes of it
 
+-- the first node has started an application and leaves it to the second one, which takes it
+pub record Leaves (a : App) (s : SystemView) : Type 0 where
+  pub synchronised : is_synchronised_at n1 s ≡ true
+  pub sees : are_linked n1 n2 s.links ≡ true
+  pub begun : is_begun a (node_at s n1).controller ≡ true
+  pub told : told_of n1 a s ≡ n2 ∷ []
+  pub leaves : LeavesIt n1 n2 a (dist_of s n1)
+  pub takes : TakesIt (own_at s n2) n1 n2 a (dist_of s n2)
+  pub takeovers : (dist_of s n2).t_reqs ≡ []
+  pub sees_too : are_linked n2 n1 s.links ≡ true
+
 -- both nodes know and see one another, and have started all four
 record Runs (s : SystemView) : Type 0 where
   calls : s.calls ≡ []
@@ -155,13 +168,9 @@ record Runs (s : SystemView) : Type 0 where
   found : IsFoundThen (own_at s n2) n2 d1 (dist_of s n2)
   elsewhere : keyfind d1 (node_at s n2).controller.running ≡ Some (place_of.At n1)
   listed_last : controls (own_at s n1) d4 ≡ true
-  begun_last : is_begun d4 (node_at s n1).controller ≡ true
-  told : told_of n1 d4 s ≡ n2 ∷ []
-  leaves : LeavesIt n1 n2 d4 (dist_of s n1)
   may_last : may_run (dist_of s n2) n2 d4 ≡ true
   listed_there : controls (own_at s n2) d4 ≡ true
-  takes : TakesIt (own_at s n2) n1 n2 d4 (dist_of s n2)
-  takeovers_too : (dist_of s n2).t_reqs ≡ []
+  moves : Leaves d4 s
   knows_too : is_among n1 (dist_of s n2).known ≡ true
   needs_too : lacks_running (controller_turn s.cluster (own_at s n2) n2 (node_at s n2)) d4 ≡ None
 
@@ -205,13 +214,18 @@ runs = record {
   found = record { not_here = refl; elsewhere = record { at = n1; found = inl (refl, refl, refl) } };
   elsewhere = refl;
   listed_last = refl;
-  begun_last = refl;
-  told = refl;
-  leaves = record { local = refl; started = refl; may = refl };
   may_last = refl;
   listed_there = refl;
-  takes = record { not_here = refl; chosen = record { first = refl; not_yet = refl } };
-  takeovers_too = refl;
+  moves = record {
+    synchronised = refl;
+    sees = refl;
+    begun = refl;
+    told = refl;
+    leaves = record { local = refl; started = refl; may = refl };
+    takes = record { not_here = refl; chosen = record { first = refl; not_yet = refl } };
+    takeovers = refl;
+    sees_too = refl;
+  };
   knows_too = refl;
   needs_too = refl;
 }
@@ -249,31 +263,32 @@ both_reached = begins_at one_up n2 never_begun refl refl (begins_at none_begun n
 
 -- ---- so the laws are of it
 
-are_at_rest : (s : SystemView) → IsThere n1 s → IsThere n2 s → Runs s → NoMore s → IsSettled s → AreAtRest s
-are_at_rest s first second so none settled = record {
+pub are_at_rest : (s : SystemView) → IsThere n1 s → IsThere n2 s → s.calls ≡ [] → NoMore s → IsSettled s → AreAtRest s
+are_at_rest s first second no_calls none settled = record {
   settled = settled;
-  calls = so.calls;
+  calls = no_calls;
   dists = λ n d alive has.
       of_both (λ (m : Node). (e : DistView) → (node_at s m).dist ≡ Some e → IsUnoccupied e) s none
       (at_rest s n1 first) (at_rest s n2 second) n.0 alive d has;
 }
 
 -- it sees the other one
-sees_both : (s : SystemView) → Runs s → NoMore s → (m : Node) → is_alive_at s m ≡ true → (n1.0 == m.0 || are_linked n1 m s.links) ≡ true
-sees_both s so none m alive = of_both (λ (k : Node). (n1.0 == k.0 || are_linked n1 k s.links) ≡ true) s none refl so.sees m.0 alive
+sees_both : (s : SystemView) → are_linked n1 n2 s.links ≡ true → NoMore s → (m : Node) → is_alive_at s m ≡ true
+    → (n1.0 == m.0 || are_linked n1 m s.links) ≡ true
+sees_both s sees none m alive = of_both (λ (k : Node). (n1.0 == k.0 || are_linked n1 k s.links) ≡ true) s none refl sees m.0 alive
 
-sees_list : (s : SystemView) (a : App) → Runs s → NoMore s → SeesList n1 a s
-sees_list s a so none = record { synchronised = so.synchronised; sees = λ m among alive. sees_both s so none m alive }
+sees_list : (s : SystemView) (a : App) → is_synchronised_at n1 s ≡ true → are_linked n1 n2 s.links ≡ true → NoMore s → SeesList n1 a s
+sees_list s a synchronised sees none = record { synchronised = synchronised; sees = λ m among alive. sees_both s sees none m alive }
 
 sees_all : (s : SystemView) → IsThere n1 s → Runs s → NoMore s → SeesAll n1 s
 sees_all s there so none = record {
   takeovers = λ d has. ap (λ (x : DistView). x.t_reqs) (sym (is_it s n1 d there has)) ∙ so.takeovers;
-  sees = λ d has m among alive. sees_both s so none m alive;
+  sees = λ d has m among alive. sees_both s so.sees none m alive;
 }
 
 stops : (s : SystemView) → IsThere n1 s → IsThere n2 s → Runs s → NoMore s → StopsBehind n1 d1 s
 stops s first second so none = record {
-  sees_list = sees_list s d1 so none;
+  sees_list = sees_list s d1 so.synchronised so.sees none;
   alone = λ d has is. subst (RunsThereAlone n1 d1) (is_it s n1 d first has) so.alone;
   tells = record {
     sees_all = sees_all s first so none;
@@ -289,7 +304,7 @@ stops s first second so none = record {
 starts : (s : SystemView) (a : App) → IsThere n1 s → Runs s → NoMore s → IsChosenThen (own_at s n1) n1 a (dist_of s n1)
     → StartsBehind n1 a s
 starts s a there so none chosen = record {
-  sees_list = sees_list s a so none;
+  sees_list = sees_list s a so.synchronised so.sees none;
   chooses = λ d has is. subst (IsChosenThen (own_at s n1) n1 a) (is_it s n1 d there has) chosen;
   sees_all = sees_all s there so none;
 }
@@ -307,22 +322,25 @@ finds s there so none = record {
 is_second : n2.0 ≢ n1.0
 is_second is = omega (arith, is)
 
-moves : (s : SystemView) → IsThere n1 s → IsThere n2 s → Runs s → NoMore s → MovesBehind n1 d4 s
-moves s first second so none = record {
+pub moves : (s : SystemView) (a : App) → IsThere n1 s → IsThere n2 s → Leaves a s → NoMore s → MovesBehind n1 a s
+moves s a first second so none = record {
   at = n2;
   other = is_second;
-  sees_list = sees_list s d4 so none;
-  begun = so.begun_last;
-  alone = so.told;
-  leaves = λ d has is. subst (LeavesIt n1 n2 d4) (is_it s n1 d first has) so.leaves;
-  takes = λ d has is may. subst (TakesIt (own_at s n2) n1 n2 d4) (is_it s n2 d second has) so.takes;
+  sees_list = sees_list s a so.synchronised so.sees none;
+  begun = so.begun;
+  once = ap (filter (λ m. m.0 == n2.0)) so.told;
+  leaves = λ d has is. subst (LeavesIt n1 n2 a) (is_it s n1 d first has) so.leaves;
+  takes = λ d has is may. subst (TakesIt (own_at s n2) n1 n2 a) (is_it s n2 d second has) so.takes;
   sees_all = record {
-    takeovers = λ d has. ap (λ (x : DistView). x.t_reqs) (sym (is_it s n2 d second has)) ∙ so.takeovers_too;
+    takeovers = λ d has. ap (λ (x : DistView). x.t_reqs) (sym (is_it s n2 d second has)) ∙ so.takeovers;
     sees = λ d has m among alive.
         of_both (λ (k : Node). (n2.0 == k.0 || are_linked n2 k s.links) ≡ true) s none so.sees_too refl m.0 alive;
   };
-  needs = so.needs_too;
+  others = λ m d other among has. absurd (alone m other (sym (ap (λ nodes. is_among m nodes) so.told) ∙ among));
 }
+  where
+    alone : (m : Node) → m.0 ≢ n2.0 → is_among m (n2 ∷ []) ≡ true → ⊥
+    alone m other among = false≢true (sym (ap (λ b. b || false) (ne_eqb m.0 n2.0 other)) ∙ among)
 
 -- There are such calls: at the first node a forbid of the application that it may run alone, a permit of the one that runs nowhere, a
 -- permit of the one that runs at the second node, and a forbid of the one that both may run; and at the second one a permit of the first.
@@ -339,11 +357,11 @@ record Row : Type 0 where
 row : Row
 row = record {
   is_reached = both_reached;
-  is_at_rest = are_at_rest both_up first_there second_there runs no_more ((settles 1000 FirstComes (booted n2 one_up)).1 is_quiet);
+  is_at_rest = are_at_rest both_up first_there second_there runs.calls no_more ((settles 1000 FirstComes (booted n2 one_up)).1 is_quiet);
   runs = runs;
   stops = stops both_up first_there second_there runs no_more;
   starts = starts both_up d2 first_there runs no_more runs.chosen;
   takes_over = starts both_up d3 first_there runs no_more runs.chosen_third;
   finds = finds both_up second_there runs no_more;
-  moves = moves both_up first_there second_there runs no_more;
+  moves = moves both_up d4 first_there second_there runs.moves no_more;
 }

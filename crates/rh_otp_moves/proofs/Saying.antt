@@ -2,7 +2,6 @@
 use Rattle.std.proofs.Common.{◌≡◌, ◌⊎◌, ◌==◌, Bool, true, false, cond, List, [], ◌∷◌, Option, Some, None, refl, sym, ap, subst, ◌∙◌, inl, inr}
 use Rattle.std.specs.Prelude.{All}
 use Rattle.std.proofs.lemmas.List.Elements.{All-nil, All-cons}
-use Rattle.std.proofs.lemmas.Option.{none-some}
 use Rattle.rh_model.specs.ClusterView.{has_phases}
 use Rattle.rh_model.specs.declared.node.App.{App}
 use Rattle.rh_model.specs.declared.node.Node.{Node}
@@ -57,10 +56,9 @@ told_started a t error = record {
 
 -- at a change by which it starts it says nothing, or that it runs already, or a starter reports
 pub data Begun (a : App) (t u : ControllerTurn) : Type 0 where
-  nothing : Turn t.here.node u [] → u.state.is_ending ≡ t.state.is_ending → Begun a t u
-  runs : Turn t.here.node u (told_runs a t None ∷ []) → u.state.is_ending ≡ t.state.is_ending → Begun a t u
-  spawns : (error : Option Dep) → error ≡ lacks_running t a → Turn t.here.node u (told_started a t error ∷ [])
-      → AskedAlone a u.state → u.state.is_ending ≡ t.state.is_ending → Begun a t u
+  nothing : Turn t.here.node u [] → Begun a t u
+  runs : Turn t.here.node u (told_runs a t None ∷ []) → Begun a t u
+  spawns : (error : Option Dep) → Turn t.here.node u (told_started a t error ∷ []) → AskedAlone a u.state → Begun a t u
 
 silent : (t u : ControllerTurn) → u.out ≡ [] → Turn t.here.node u []
 silent t u none = record {
@@ -93,11 +91,6 @@ spawned_requests : (a : App) (kind : StartType) (error : Option Dep) (t : Contro
 spawned_requests a kind None t = refl
 spawned_requests a kind (Some d) t = refl
 
-spawned_ending : (a : App) (kind : StartType) (error : Option Dep) (t : ControllerTurn)
-    → (spawned a kind error (fresh t)).state.is_ending ≡ t.state.is_ending
-spawned_ending a kind None t = refl
-spawned_ending a kind (Some d) t = refl
-
 does_start : (a : App) (restart : Option Restart) (kind : StartType) (t : ControllerTurn) → Begun a t (do_start a restart kind (fresh t))
 unfolding do_start spawn_starter
 does_start a restart kind t = by (has_row a t.state.start_req) refl
@@ -117,27 +110,25 @@ does_start a restart kind t = by (has_row a t.state.start_req) refl
     asks : has_row a t.state.start_req ≡ false → (b : Bool)
         → Begun a t (add_request a None (cond b told (add_starting a kept kind told)))
     asks nobody true =
-        spawns error refl (record { said = said.said; sent = said.sent })
+        spawns error (record { said = said.said; sent = said.sent })
         (record { rows = told.state.start_req; first = refl; nobody = ap (has_row a) (spawned_requests a kind error t) ∙ nobody })
-        (spawned_ending a kind error t)
     asks nobody false =
-        spawns error refl (record { said = said.said; sent = said.sent })
+        spawns error (record { said = said.said; sent = said.sent })
         (record { rows = told.state.start_req; first = refl; nobody = ap (has_row a) (spawned_requests a kind error t) ∙ nobody })
-        (spawned_ending a kind error t)
 
     by : (b : Bool) → has_row a t.state.start_req ≡ b
         → Begun a t (cond b (fresh t) (add_request a None (cond (has_row a told.state.starting) told (add_starting a kept kind told))))
-    by true is = nothing (silent t (fresh t) refl) refl
+    by true is = nothing (silent t (fresh t) refl)
     by false is = asks is (has_row a told.state.starting)
 
 -- whatever else it keeps
-begun_with : (a : App) (t u : ControllerTurn) (x : ControllerView) → x.start_req ≡ u.state.start_req
-    → x.is_ending ≡ u.state.is_ending → Begun a t u → Begun a t (record u { state = x })
-begun_with a t u x same ends (nothing said kept) = nothing (record { said = said.said; sent = said.sent }) (ends ∙ kept)
-begun_with a t u x same ends (runs said kept) = runs (record { said = said.said; sent = said.sent }) (ends ∙ kept)
-begun_with a t u x same ends (spawns error is said asked kept) =
-    spawns error is (record { said = said.said; sent = said.sent })
-    (record { rows = asked.rows; first = same ∙ asked.first; nobody = asked.nobody }) (ends ∙ kept)
+begun_with : (a : App) (t u : ControllerTurn) (x : ControllerView) → x.start_req ≡ u.state.start_req → Begun a t u
+    → Begun a t (record u { state = x })
+begun_with a t u x same (nothing said) = nothing (record { said = said.said; sent = said.sent })
+begun_with a t u x same (runs said) = runs (record { said = said.said; sent = said.sent })
+begun_with a t u x same (spawns error said asked) =
+    spawns error (record { said = said.said; sent = said.sent })
+    (record { rows = asked.rows; first = same ∙ asked.first; nobody = asked.nobody })
 
 pub changes : (a : App) (what : Change) (t : ControllerTurn) → IsStart what → controls t.own a ≡ true
     → Begun a t (received (message.Change a what) (fresh t))
@@ -148,7 +139,7 @@ changes a what t is listed = ends t.state.is_ending
     f = fresh t
 
     none : Begun a t f
-    none = nothing (silent t f refl) refl
+    none = nothing (silent t f refl)
 
     idle : (w : Change) → IsStart w → Begun a t (change_idle a w f)
     idle _ starts = by (has_row a t.state.running) (has_row a t.state.started) (has_row a t.state.starting)
@@ -164,7 +155,7 @@ changes a what t is listed = ends t.state.is_ending
             (record told { state = record told.state { started = keydelete a told.state.started } })
             (cond starting told f)))
         by true started starting = none
-        by false true starting = begun_with a t told (record told.state { started = keydelete a told.state.started }) refl refl begun
+        by false true starting = begun_with a t told (record told.state { started = keydelete a told.state.started }) refl begun
         by false false true = begun
         by false false false = none
     idle _ (takes_over m) = none
@@ -174,7 +165,7 @@ changes a what t is listed = ends t.state.is_ending
     here = by (controls t.own a) listed
       where
         by : (b : Bool) → b ≡ true → Begun a t (cond b (send (process_at t.here role.DistAc) (message.Run a None) f) f)
-        by true so = runs (says t (send (process_at t.here role.DistAc) (message.Run a None) f) (told_runs a t None) refl) refl
+        by true so = runs (says t (send (process_at t.here role.DistAc) (message.Run a None) f) (told_runs a t None) refl)
         by false so = none
 
     begins : (w : Change) → IsStart w → Begun a t (start_here a w f)
@@ -207,8 +198,7 @@ changes a what t is listed = ends t.state.is_ending
 
 -- at the report it says nothing, or how it went
 abbrev pub Reported : App → Option Dep → ControllerTurn → ControllerTurn → Type 0
-Reported a error t u = (Turn t.here.node u [] ⊎ Turn t.here.node u (told_runs a t error ∷ []))
-    × (error ≡ None → u.state.is_ending ≡ t.state.is_ending)
+Reported a error t u = Turn t.here.node u [] ⊎ Turn t.here.node u (told_runs a t error ∷ [])
 
 pub reports : (a : App) (error : Option Dep) (t : ControllerTurn) → AskedAlone a t.state → controls t.own a ≡ true
     → Reported a error t (received (message.ApplicationStarted a error) (fresh t))
@@ -242,25 +232,21 @@ reports a error t asked listed =
         ∙ none_replied a o asked.rows f asked.nobody)
 
     tells : (e : Option Dep) → e ≡ error → (b : Bool) → b ≡ true → (x : ControllerTurn → ControllerTurn)
-        → ((u : ControllerTurn) → (x u).out ≡ u.out) → ((u : ControllerTurn) → e ≡ None → (x u).state.is_ending ≡ u.state.is_ending)
+        → ((u : ControllerTurn) → (x u).out ≡ u.out)
         → Said (x (cond b (send (process_at t.here role.DistAc) (message.Run a e) (end_starting a told)) (end_starting a told)))
-    tells e is b so x same kept =
+    tells e is b so x same =
         let sent : ControllerTurn = send (process_at t.here role.DistAc) (message.Run a e) (end_starting a told) in
-        subst (λ (y : Bool). Said (x (cond y sent (end_starting a told)))) (sym so) (
-          inr (says t (x sent) (told_runs a t error) (same sent ∙ ap (λ (y : Option Dep). output.Send (told_runs a t y) ∷ []) is)),
-          (λ none. kept sent (is ∙ none)),
-        )
+        subst (λ (y : Bool). Said (x (cond y sent (end_starting a told)))) (sym so)
+        (inr (says t (x sent) (told_runs a t error) (same sent ∙ ap (λ (y : Option Dep). output.Send (told_runs a t y) ∷ []) is)))
 
     by : (e : Option Dep) (row : Option Starting) → e ≡ error → Said (started_by a place_of.Here e row told)
-    by None None is = (inl (silent t told refl), λ none. refl)
-    by (Some d) None is = (inl (silent t told refl), λ none. refl)
-    by None (Some row) is =
-        tells None is (controls t.own a) listed (λ u. set_running a place_of.Here row.restart u) (λ u. refl)
-        (λ u none. refl)
+    by None None is = inl (silent t told refl)
+    by (Some d) None is = inl (silent t told refl)
+    by None (Some row) is = tells None is (controls t.own a) listed (λ u. set_running a place_of.Here row.restart u) (λ u. refl)
     by (Some d) (Some row) is =
         tells (Some d) is (controls t.own a) listed (λ u. record u { state = record u.state { is_ending = ends_node row.restart } })
-        (λ u. refl) (λ u none. absurd (none-some d (sym none)))
+        (λ u. refl)
 
     ends : (b : Bool) → Said (cond b f (started_by a place_of.Here error (keyfind a told.state.starting) told))
-    ends true = (inl (silent t f refl), λ none. refl)
+    ends true = inl (silent t f refl)
     ends false = by error (keyfind a told.state.starting) refl

@@ -256,7 +256,7 @@ takes {lives} {c} {allow} {only} {b} starts s d over more l f alive has is close
 
 -- ---- what others are told of the permission
 
-either_way : (p : Bool) → (p || true) ≡ true
+pub either_way : (p : Bool) → (p || true) ≡ true
 either_way true = refl
 either_way false = refl
 

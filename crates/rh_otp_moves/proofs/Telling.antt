@@ -139,7 +139,7 @@ heard_idle k c files m x d over free is no_need closed plain kinds rest tame = r
 }
 
 -- it handles whatever comes next
-idle_rest : (d e : DistView) → IsUnoccupied d → e.stand ≡ stand.Idle → e.mail ≡ [] → e.p_reqs ≡ d.p_reqs → e.parked ≡ d.parked
+pub idle_rest : (d e : DistView) → IsUnoccupied d → e.stand ≡ stand.Idle → e.mail ≡ [] → e.p_reqs ≡ d.p_reqs → e.parked ≡ d.parked
     → IsUnoccupied e
 idle_rest d e free is none permits parked = record {
   stand = inl is;
@@ -151,7 +151,7 @@ idle_rest d e free is none permits parked = record {
 
 -- the permission
 
-notes_so : (n : Node) (a : App) (allow : Bool) (t : TurnView) → t.here.node.0 ≢ n.0
+pub notes_so : (n : Node) (a : App) (allow : Bool) (t : TurnView) → t.here.node.0 ≢ n.0
     → (allow ≡ false → controls t.own a ≡ true → may_run t.state t.here.node a ≡ false)
     → new_permission n a allow (not allow) t ≡ noted n a allow t
 unfolding new_permission

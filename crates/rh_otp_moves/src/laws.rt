@@ -32,13 +32,15 @@ pub fn permits_elsewhere_end_alike()
     ensures { PermitsElsewhereEndAlike }
 {}
 
-/// So it is with a forbid by which the application moves to another node. The node's controller knows it to be started, or being started;
-/// the node's dist_ac, if it takes whatever comes, has started and runs it, and behind the forbid knows that the other node may run it,
-/// which is the only other one of the list that is alive and has a dist_ac. Where that one's dist_ac takes whatever comes and knows that
-/// its node may run it, it doesn't run it, and behind the forbid finds its own node to be the first of the list that may, with no tuple
-/// before that; what the application needs runs there, nobody waits there for a takeover, and that node sees those that are alive and of
-/// which its dist_ac knows. The dist_ac of the node at which it is forbidden has synchronised with the others, and that node sees those that
-/// are alive and of the list. Not covered are moves where more nodes of the list are told, and starts that fail.
+/// So it is with a forbid by which the application moves to another node. The node's controller lists it as started, or as being started;
+/// the node's dist_ac, if it takes whatever comes, has started and runs it, and behind the forbid knows that the other node may run it.
+/// That one is of the list, once, is alive and has a dist_ac. Where its dist_ac takes whatever comes and knows that its node may run it, it
+/// doesn't run it, and behind the forbid finds its own node to be the first of the list that may, with no tuple before that; nobody waits
+/// there for a takeover, and that node sees those that are alive and of which its dist_ac knows. The dist_ac of any further node of the
+/// list that is alive and has one takes whatever comes, and knows that its own node may not run the application, if the node has that in
+/// its own `distributed`. The dist_ac of the node at which it is forbidden has synchronised with the others, and that node sees those that
+/// are alive and of the list. So it is, too, where the start at the other node fails, since what the application needs doesn't run there,
+/// which may end that node. Not covered are moves by which a further node looks whether to start it, too.
 pub fn forbids_that_move_end_alike()
     ensures { ForbidsThatMoveEndAlike }
 {}
