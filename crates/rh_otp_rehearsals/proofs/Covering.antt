@@ -3,6 +3,7 @@ use Rattle.std.proofs.Common.{◌≡◌, ◌⊎◌, ◌+◌, ◌-◌, ◌&&◌, 
 use Rattle.std.proofs.lemmas.Option.{none-some, same_Some}
 use Rattle.rh_calls.specs.declared.call.Call.{Call}
 use Rattle.rh_calls.specs.declared.call.Call.TheVariants as call
+use Rattle.rh_model.specs.ClusterView.{node_count}
 use Rattle.rh_model.specs.declared.node.App.{App}
 use Rattle.rh_model.specs.declared.node.Node.{Node}
 use Rattle.rh_rules.specs.declared.event.Event.{Event}
@@ -19,15 +20,16 @@ use Rattle.rh_otp_system.specs.declared.calls.Stage.TheVariants as stage
 use Rattle.rh_otp_system.specs.Calling.{go_on_call}
 use Rattle.rh_otp_system.specs.Calling as calling
 use Rattle.rh_otp_system.specs.Calls.{process_of, message_of, is_takeover}
-use Rattle.rh_otp_system.specs.Doing.{call_of, with_call, called, fired_next, until_if, next_until}
+use Rattle.rh_otp_system.specs.Doing.{booted, call_of, with_call, called, fired_next, until_if, next_until}
 use Rattle.rh_otp_system.specs.Ending as ending
 use Rattle.rh_otp_system.specs.Moves.{settled, is_settled_by, Reaches, IsSettled}
 use Rattle.rh_otp_system.specs.Resting.{crashed, forgotten}
 use Rattle.rh_otp_system.specs.Sending.{sent, told}
-use Rattle.rh_otp_system.specs.State.{SystemView, has_dist_at}
+use Rattle.rh_otp_system.specs.State.{SystemView, has_dist_at, is_alive_at, node_at}
 use Rattle.rh_otp_system.specs.Working.{alive_of, around}
 use Rattle.rh_otp_system.proofs.Moving.{settles}
-use Rattle.rh_otp_laws.specs.Acting.{IsReached, later, ticks}
+use Rattle.rh_otp_laws.specs.Acting as acting
+use Rattle.rh_otp_laws.specs.Acting.{IsThere, IsReached, later, acts, begins, ticks}
 use Rattle.rh_otp_laws.proofs.Hanging.{settled_stays_so}
 use Rattle.rh_otp_laws.proofs.Time.{due_fire}
 use Rattle.rh_otp_orders.specs.Confluence.{EveryOrderEndsAlike}
@@ -37,7 +39,7 @@ use Rattle.rh_otp_sim.specs.Sim.{LiveSimView, opened, net_in}
 use Rattle.rh_otp_sim.specs.Stepping.{begun}
 use Rattle.rh_otp_reached.proofs.States.{Holds, makes_holds, opened_holds}
 use Rattle.rh_otp_reached.proofs.Steps.{begun_stands}
-use Rattle.rh_otp_crashes.specs.Crashes.{AreAtRest}
+use Rattle.rh_otp_crashes.specs.Crashes.{AreAtRest, FailOverLater}
 use Rattle.rh_otp_crashes.specs.Failovers.{FailsOverAt}
 use Rattle.rh_otp_crashes.proofs.Crash.{crashes_alike}
 use Rattle.rh_otp_crashes.proofs.Failover.{failovers_alike}
@@ -55,7 +57,14 @@ use Rattle.rh_otp_begins.proofs.Left.{left_alike}
 use Rattle.rh_otp_begins.proofs.Nowhere.{nowhere_alike}
 use Rattle.rh_otp_permits.proofs.Permit.{permits_alone}
 use Rattle.rh_otp_commands.specs.Commands.{SettlesAlike, FiringsEndAlike, TickEndsAlike}
-use Rattle.rh_otp_rehearsals.specs.Covered.{IsCovered, boot, crash, time, failover, stop, exit, fatal_exit, forbid, permit, permit_alone, start, start_elsewhere, start_here, start_left, start_nowhere, takeover, permit_starts, permit_elsewhere, forbid_stops, forbid_moves, CallIsCovered, EachIsCovered, CoveredRehearsalsEndAlike}
+use Rattle.rh_otp_waits.proofs.Boot as waiting
+use Rattle.rh_otp_joins.specs.Joins.{ComesBack}
+use Rattle.rh_otp_returns.specs.Returns.{CanBootThere}
+use Rattle.rh_otp_returns.proofs.Return.{returns_alike}
+use Rattle.rh_otp_scripts.specs.Boots.{GoesOneWay}
+use Rattle.rh_otp_scripts.specs.Scripts.{BootsAlone, CanBoot}
+use Rattle.rh_otp_scripts.proofs.Script as script
+use Rattle.rh_otp_rehearsals.specs.Covered.{IsCovered, boot, boot_waiting, boot_returning, boot_by_script, crash, time, failover, stop, exit, fatal_exit, forbid, permit, permit_alone, start, start_elsewhere, start_here, start_left, start_nowhere, takeover, permit_starts, permit_elsewhere, forbid_stops, forbid_moves, CallIsCovered, EachIsCovered, CoveredRehearsalsEndAlike}
 use Rattle.rh_otp_rehearsals.specs.Rehearsals.{EventEndsAlike, CallEndsAlike, EachEndsAlike}
 use Rattle.rh_otp_commands.proofs.OneWay.{rest_ends_alike}
 use Rattle.rh_otp_rehearsals.proofs.OneWay.{settles_one_way}
@@ -140,6 +149,26 @@ asks : (asked : Ask) (n : Node) (a : App) (s : SystemView) → s.answers ≡ [] 
 asks asked n a s none rest every =
     call_if (nat_lt s.last_call (2 ^ 32 - 1)) asked n a s none rest.settled every
 
+-- ---- a boot
+
+boots_if : (b : Bool) (s : SystemView) (n : Node) → s.answers ≡ [] → waiting.Starts s n → SettlesAlike (cond b (booted n s) s)
+boots_if true s n none f =
+    afresh (booted n s) (ap (λ (x : SystemView). x.answers) (waiting.tells s n f).same ∙ none) (waiting.starts_alike s n f).0
+boots_if false s n none f = afresh s none (rest_ends_alike s f.rest.settled)
+
+return_if : (b : Bool) (s : SystemView) (n : Node) → s.answers ≡ [] → IsReached s → AreAtRest s → ComesBack n s → CanBootThere n s
+    → FailOverLater s → SettlesAlike (cond b (booted n s) s)
+return_if true s n none reached rest back can later_so = (returns_alike s n reached rest back can (λ soon. later_so)).0
+return_if false s n none reached rest back can later_so = afresh s none (rest_ends_alike s rest.settled)
+
+script_if : (b : Bool) (s t : SystemView) (n : Node) → s.answers ≡ [] → IsReached s → AreAtRest s → IsThere n s → is_alive_at s n ≡ false
+    → GoesOneWay (record (booted n s) { answers = [] }) t → BootsAlone n t → CanBoot n t → FailOverLater t
+    → SettlesAlike (cond b (booted n s) s)
+script_if true s t n none reached rest there down goes alone can later_so =
+    (script.boots_alike (record (booted n s) { answers = [] }) t n
+    (later (booted n s) _ (later s _ reached (acts s _ (begins s n there down))) (acting.settles (booted n s))) refl goes alone can (λ soon. later_so)).0
+script_if false s t n none reached rest there down goes alone can later_so = afresh s none (rest_ends_alike s rest.settled)
+
 -- ---- time passes
 
 -- what is at rest settles at once
@@ -215,6 +244,14 @@ record Begun (e : Event) (s : SystemView) : Type 0 where
 
 covers : (e : Event) (sim : LiveSimView) (s : SystemView) → Begun e s → IsCovered e s → EventEndsAlike e sim s
 covers _ sim _ b (boot s n most so) = settles_one_way most (booted_if n s) so
+covers _ sim _ b (boot_waiting s n rest there sees waits) =
+    boots_if (nat_lt n.0 (node_count s.cluster) && nat_lt (node_at s n).life (2 ^ 32 - 1)) s n b.none
+    (record { reached = b.reached; rest = rest; there = there; sees = sees; waits = waits })
+covers _ sim _ b (boot_returning s n rest back can later_so) =
+    return_if (nat_lt n.0 (node_count s.cluster) && nat_lt (node_at s n).life (2 ^ 32 - 1)) s n b.none b.reached rest back can later_so
+covers _ sim _ b (boot_by_script s t n rest there down goes alone can later_so) =
+    script_if (nat_lt n.0 (node_count s.cluster) && nat_lt (node_at s n).life (2 ^ 32 - 1)) s t n b.none b.reached rest there down goes alone can
+    later_so
 covers _ sim _ b (crash s n rest later_so) = afresh (crashed n s) (crashed_none n s ∙ b.none) (crashes_alike s n b.reached rest later_so).0
 covers _ sim _ b (time s ms at due) = passes (s.clock + ms) sim.order s b.none at due
 covers _ sim _ b (failover s ms n a rest fails none_more) = fails_over (s.clock + ms) sim.order s n a b.none b.reached rest fails none_more

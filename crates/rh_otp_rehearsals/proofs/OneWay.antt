@@ -12,7 +12,7 @@ use Rattle.rh_otp_system.specs.State.{SystemView}
 use Rattle.rh_otp_system.proofs.Moving.{settles}
 use Rattle.rh_otp_commands.specs.Commands.{SettlesAlike}
 use Rattle.rh_otp_commands.proofs.OneWay.{OneWay, rests, goes, one_way_alike}
-use Rattle.rh_otp_rehearsals.specs.Covered.{none_counted, is_over, one_slow, one_message, goes_one_way}
+use Rattle.rh_otp_rehearsals.specs.Covered.{none_counted, is_over, one_slow, one_message, goes_one_at_a_time}
 
 abbrev HasOneWay : SystemView → Type 0
 HasOneWay s = (n : ℕ) × (u : SystemView) × OneWay n s u
@@ -59,8 +59,8 @@ only_slow s what empty is v (move.Lock n) possible makes = absurd (some_is_there
 only_slow s what empty is v (move.Call place) possible makes = absurd (some_is_there s.slow [] what is possible.0.1)
 only_slow s what empty is v (move.End n) possible makes = absurd (some_is_there s.slow [] what is possible.0.1)
 
-way_by_slow : (most : ℕ) (s : SystemView) (slow : List Slow) → s.messages ≡ [] → s.slow ≡ slow → one_slow (goes_one_way most) slow s ≡ true
-    → ((t : SystemView) → goes_one_way most t ≡ true → HasOneWay t) → HasOneWay s
+way_by_slow : (most : ℕ) (s : SystemView) (slow : List Slow) → s.messages ≡ [] → s.slow ≡ slow → one_slow (goes_one_at_a_time most) slow s ≡ true
+    → ((t : SystemView) → goes_one_at_a_time most t ≡ true → HasOneWay t) → HasOneWay s
 way_by_slow most s [] empty is so rest = (0, s, rests s (rest_so s so))
 way_by_slow most s (what ∷ []) empty is so rest =
     let t : SystemView = made (move.Slow 0) s in
@@ -74,7 +74,7 @@ way_by_slow most s (what ∷ []) empty is so rest =
 way_by_slow most s (what ∷ other ∷ slow) empty is so rest = absurd (false≢true so)
 
 way_by_messages : (most : ℕ) (s : SystemView) (messages : List Envelope) → s.messages ≡ messages
-    → one_message (goes_one_way most) messages s ≡ true → ((t : SystemView) → goes_one_way most t ≡ true → HasOneWay t) → HasOneWay s
+    → one_message (goes_one_at_a_time most) messages s ≡ true → ((t : SystemView) → goes_one_at_a_time most t ≡ true → HasOneWay t) → HasOneWay s
 way_by_messages most s [] is so rest = way_by_slow most s s.slow is refl so rest
 way_by_messages most s (e ∷ []) is so rest =
     let t : SystemView = made (move.Deliver 0) s in
@@ -86,12 +86,12 @@ way_by_messages most s (e ∷ []) is so rest =
     )
 way_by_messages most s (e ∷ f ∷ messages) is so rest = absurd (false≢true so)
 
-has_one_way : (most : ℕ) (s : SystemView) → goes_one_way most s ≡ true → HasOneWay s
+has_one_way : (most : ℕ) (s : SystemView) → goes_one_at_a_time most s ≡ true → HasOneWay s
 has_one_way zero s so = absurd (false≢true so)
 has_one_way (suc most) s so = way_by_messages most s s.messages refl so (has_one_way most)
 
 -- so all that comes of it ends alike
-pub settles_one_way : (most : ℕ) (s : SystemView) → goes_one_way most (record s { answers = [] }) ≡ true → SettlesAlike s
+pub settles_one_way : (most : ℕ) (s : SystemView) → goes_one_at_a_time most (record s { answers = [] }) ≡ true → SettlesAlike s
 settles_one_way most s so =
     let way : HasOneWay (record s { answers = [] }) = has_one_way most (record s { answers = [] }) so in
     one_way_alike way.0 (record s { answers = [] }) way.1 way.2

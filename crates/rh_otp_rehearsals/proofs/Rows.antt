@@ -56,7 +56,7 @@ use Rattle.rh_otp_sim.specs.Sim.{LiveSimView, opened, net_in}
 use Rattle.rh_otp_sim.specs.Stepping.{begun}
 use Rattle.rh_otp_commands.specs.Commands.{SettlesAlike, FiringsEndAlike, TickEndsAlike}
 use Rattle.rh_otp_rehearsals.specs.Rehearsals.{EachEndsAlike}
-use Rattle.rh_otp_rehearsals.specs.Covered.{is_over, goes_one_way, boot, crash, stop, EachIsCovered}
+use Rattle.rh_otp_rehearsals.specs.Covered.{is_over, goes_one_at_a_time, boot, crash, stop, EachIsCovered}
 use Rattle.rh_otp_rehearsals.proofs.Covering.{covered_alike}
 use Rattle.rh_otp_rehearsals.proofs.OneWay.{rest_so, settles_one_way}
 
@@ -131,10 +131,10 @@ calls =
     ∷ call.Undo ∷ call.Redo ∷ call.UndoAll ∷ call.RedoAll ∷ call.Look ∷ []
 
 record Computed : Type 0 where
-  boots : goes_one_way 100 (record (done_first (event.Boot n1) first at_boot) { answers = [] }) ≡ true
-  begins : goes_one_way 100 (record at_tick { answers = []; is_ticking = true }) ≡ true
+  boots : goes_one_at_a_time 100 (record (done_first (event.Boot n1) first at_boot) { answers = [] }) ≡ true
+  begins : goes_one_at_a_time 100 (record at_tick { answers = []; is_ticking = true }) ≡ true
   due : next_until (at_tick.clock + 12000) (ticking most_moves FirstComes at_tick) ≡ Some 12000
-  fires : goes_one_way 100 (record (fired_next 12000 (ticking most_moves FirstComes at_tick)) { answers = [] }) ≡ true
+  fires : goes_one_at_a_time 100 (record (fired_next 12000 (ticking most_moves FirstComes at_tick)) { answers = [] }) ≡ true
   no_more : next_until (at_tick.clock + 12000) (settled most_moves FirstComes (fired_next 12000
       (ticking most_moves FirstComes at_tick))) ≡ None
   order : waiting.order ≡ FirstComes

@@ -19,9 +19,9 @@ use Rattle.rh_otp_net.specs.declared.order.Order.TheVariants.{FirstComes}
 use Rattle.rh_otp_system.specs.declared.moves.Move.TheVariants as move
 use Rattle.rh_otp_system.specs.declared.slow.Answered.{Answered}
 use Rattle.rh_otp_system.specs.declared.slow.Slow.{Slow}
-use Rattle.rh_otp_system.specs.Doing.{fired_next, next_until}
+use Rattle.rh_otp_system.specs.Doing.{booted, fired_next, next_until}
 use Rattle.rh_otp_system.specs.Moves.{made, is_settled_by, Reaches, IsSettled}
-use Rattle.rh_otp_system.specs.State.{SystemView, node_at, own_at}
+use Rattle.rh_otp_system.specs.State.{SystemView, node_at, own_at, is_alive_at}
 use Rattle.rh_otp_sim.specs.Acting.{booted_if}
 use Rattle.rh_otp_sim.specs.Calls.{made_by}
 use Rattle.rh_otp_sim.specs.Refusing.{refused}
@@ -40,6 +40,12 @@ use Rattle.rh_otp_moves.specs.Elsewhere.{FindsElsewhere}
 use Rattle.rh_otp_moves.specs.Moving.{MovesBehind}
 use Rattle.rh_otp_moves.specs.Starting.{StartsBehind}
 use Rattle.rh_otp_moves.specs.Stopping.{StopsBehind}
+use Rattle.rh_otp_laws.specs.Acting.{IsThere}
+use Rattle.rh_otp_waits.specs.Waits.{AllSeeAll, WaitsOn}
+use Rattle.rh_otp_joins.specs.Joins.{ComesBack, uncounted}
+use Rattle.rh_otp_returns.specs.Returns.{CanBootThere}
+use Rattle.rh_otp_scripts.specs.Boots.{GoesOneWay}
+use Rattle.rh_otp_scripts.specs.Scripts.{BootsAlone, CanBoot}
 use Rattle.rh_otp_rehearsals.specs.Rehearsals.{EventEndsAlike, EachEndsAlike}
 
 -- ---- one thing at a time
@@ -67,18 +73,24 @@ one_message go (e ∷ f ∷ messages) s = false
 
 -- Is one message at a time on its way, or where none is one slower thing, until nothing moves and no answers are counted, before so many
 -- moves were made? Then there is but one order.
-abbrev pub goes_one_way : ℕ → SystemView → Bool
-goes_one_way zero s = false
-goes_one_way (suc most) s = one_message (goes_one_way most) s.messages s
+abbrev pub goes_one_at_a_time : ℕ → SystemView → Bool
+goes_one_at_a_time zero s = false
+goes_one_at_a_time (suc most) s = one_message (goes_one_at_a_time most) s.messages s
 
 -- ---- what laws are of
 
 -- The event, in the system in which it is carried out, meets what a law of commands asks for: a crash or a failover; a stop, an exit or a
--- forbid; a start, a permit or a fatal exit; a start, a takeover or a permission of a distributed application. Or a node boots one thing at
--- a time, or time passes, while nothing moves and no timer is due.
+-- forbid; a start, a permit or a fatal exit; a start, a takeover or a permission of a distributed application; a boot of a node that waits
+-- on, or comes back to nodes that are up, or a boot that goes one way to where its script begins. Or a node boots one thing at a time, or
+-- time passes, while nothing moves and no timer is due.
 pub data IsCovered : Event → SystemView → Type 0 where
-  boot : (s : SystemView) (n : Node) (most : ℕ) → goes_one_way most (record (booted_if n s) { answers = [] }) ≡ true
+  boot : (s : SystemView) (n : Node) (most : ℕ) → goes_one_at_a_time most (record (booted_if n s) { answers = [] }) ≡ true
       → IsCovered (event.Boot n) s
+  boot_waiting : (s : SystemView) (n : Node) → AreAtRest s → IsThere n s → AllSeeAll s → WaitsOn n s → IsCovered (event.Boot n) s
+  boot_returning : (s : SystemView) (n : Node) → AreAtRest s → ComesBack n s → CanBootThere n s → FailOverLater s
+      → IsCovered (event.Boot n) s
+  boot_by_script : (s t : SystemView) (n : Node) → AreAtRest s → IsThere n s → is_alive_at s n ≡ false
+      → GoesOneWay (uncounted (booted n s)) t → BootsAlone n t → CanBoot n t → FailOverLater t → IsCovered (event.Boot n) s
   crash : (s : SystemView) (n : Node) → AreAtRest s → FailOverLater s → IsCovered (event.Crash n) s
   time : (s : SystemView) (ms : ℕ) → IsSettled (record s { is_ticking = true }) → next_until (s.clock + ms) s ≡ None
       → IsCovered (event.Tick ms) s
