@@ -1,9 +1,9 @@
--- The boot of the first node, where it waits for others, is answered alike.
-use Rattle.std.proofs.Common.{◌≡◌, ◌<◌, ◌≤◌, ◌+◌, ◌-◌, ◌^◌, ◌||◌, ℕ, true, false, List, [], slice_get, unwrap_or, Option, None, refl, sym, ap, subst, ◌∙◌, inl, inr, arith}
+-- The boot of a node that waits on is answered alike, whoever else is alive.
+use Rattle.std.proofs.Common.{◌≡◌, ◌<◌, ◌≤◌, ◌+◌, ◌-◌, ◌^◌, ℕ, true, List, [], slice_get, unwrap_or, Option, None, refl, sym, ap, subst, ◌∙◌, inl, inr, arith}
 use Rattle.std.specs.Option.{option_and_then}
-use Rattle.std.proofs.lemmas.Bool.{cases_eq}
+use Rattle.std.proofs.lemmas.Bool.{cases_eq, false≢true}
 use Rattle.std.proofs.lemmas.List.{length-set}
-use Rattle.rh_model.specs.ClusterView.{ClusterView, node_count, mandatory_of, optional_of}
+use Rattle.rh_model.specs.ClusterView.{ClusterView, node_count}
 use Rattle.rh_model.specs.declared.node.Node.{Node}
 use Rattle.rh_rules.specs.declared.event.Event.{Event}
 use Rattle.rh_rules.specs.declared.event.Event.TheVariants as event
@@ -16,12 +16,12 @@ use Rattle.rh_calls.specs.declared.call.Call.TheVariants as call
 use Rattle.rh_calls.specs.declared.call.Reply.TheVariants as reply
 use Rattle.rh_script.specs.Answers.{answer_text}
 use Rattle.rh_state.specs.Limits.{incarnation_limit}
-use Rattle.rh_state.specs.StateView.{StateView, mode_of, incarnation_of, is_alive}
+use Rattle.rh_state.specs.StateView.{StateView, mode_of, incarnation_of}
 use Rattle.rh_step.specs.Runs.{step}
 use Rattle.rh_trail.specs.Lone.{Served, served}
 use Rattle.rh_trail.specs.SimView.{SimView, state_of}
-use Rattle.rh_otp_node.specs.Kernel.{is_some_node}
-use Rattle.rh_otp_node.specs.Live.{LiveView, never_begun}
+use Rattle.rh_otp_net.specs.Links.{are_linked}
+use Rattle.rh_otp_node.specs.Live.{LiveView, never_begun, is_ending}
 use Rattle.rh_otp_sim.specs.declared.calls.LiveReply.TheVariants as live_reply
 use Rattle.rh_otp_sim.specs.declared.lines.Answer.TheVariants.{Told}
 use Rattle.rh_otp_sim.specs.declared.stepping.Outcome.TheVariants as live
@@ -36,21 +36,26 @@ use Rattle.rh_otp_sim.specs.Views.{HappenedView}
 use Rattle.rh_otp_sim.specs.Waiting.{still_told, events_asked, calls_asked}
 use Rattle.rh_otp_system.specs.declared.cell.Cell.{Cell}
 use Rattle.rh_otp_system.specs.declared.cell.Cell.TheVariants as cell
-use Rattle.rh_otp_system.specs.Resting.{forgotten, rested}
-use Rattle.rh_otp_system.specs.State.{SystemView, live_in, node_at}
+use Rattle.rh_otp_system.specs.Moves.{IsAmong}
+use Rattle.rh_otp_system.specs.Resting.{forgotten}
+use Rattle.rh_otp_system.specs.State.{SystemView, live_in, node_at, is_alive_at}
 use Rattle.rh_otp_system.specs.Views.{NetView}
+use Rattle.rh_otp_laws.proofs.Listing.{alive_listed}
+use Rattle.rh_otp_laws.proofs.Nodes.{written_elsewhere}
 use Rattle.rh_otp_text.specs.Lines.{verdict_words}
 use Rattle.rh_otp_text.specs.Replies.{reply_text}
 use Rattle.rh_agreement.specs.Telling.{TellTheSame, GoTogether, mode_of_phase}
 use Rattle.rh_agreement.specs.Laws.{IsAnsweredAlike, HasRoom}
-use Rattle.rh_agreement.specs.Resting.{AreBothAtRest}
-use Rattle.rh_agreement.proofs.Peace.{both_rest}
+use Rattle.rh_agreement.specs.Resting.{AreBothAtRest, AreAlwaysAtRest, held}
+use Rattle.rh_agreement.proofs.Always.{GoesOn, accepted_rest}
+use Rattle.rh_agreement.proofs.Peace.{made, both_rest}
 use Rattle.rh_agreement.proofs.Refusing.{nodes_events_alike}
-use Rattle.rh_agreement.proofs.Rest.{IsOver}
+use Rattle.rh_agreement.proofs.Rest.{IsOver, reached_again}
 use Rattle.rh_agreement.proofs.Stepping.{written, net_so, node_so, manual, made_alike, refused_or_made, unchanged_or_made}
-use Rattle.rh_agreement_boots.specs.Boots.{BeginsToWait, FirstBootsAreAnsweredAlike}
+use Rattle.rh_agreement_boots.specs.Boots.{StayInTouch, IsBootedAlike}
+use Rattle.rh_agreement_boots.specs.Waiting.{BeginsAndWaitsOn, WaitingBootsAreAnsweredAlike}
 use Rattle.rh_agreement_boots.proofs.Ready as ready
-use Rattle.rh_agreement_boots.proofs.Waiting.{IsFirstToWait}
+use Rattle.rh_agreement_boots.proofs.Waiting.{IsBooted}
 use Rattle.rh_agreement_boots.proofs.Waiting as waiting
 
 -- a life can be counted on live nodes where it can by the manual's rules
@@ -76,7 +81,7 @@ unfolding answer_text reply_text verdict_words
 same_text c l = refl
 
 module _ (sim : SimView) (l : LiveSimView) (n : Node) (together : GoTogether sim l) (room : HasRoom sim l) (at_rest : AreBothAtRest sim l)
-    (begins : BeginsToWait n sim l) (fine : refused (state_of sim) (event.Boot n) ≡ None)
+    (begins : BeginsAndWaitsOn n sim l) (fine : refused (state_of sim) (event.Boot n) ≡ None)
     (live_fine : refusal_of (net_in l).clock (event.Boot n) l ≡ None) where
   abbrev this : Event
   this = event.Boot n
@@ -89,9 +94,6 @@ module _ (sim : SimView) (l : LiveSimView) (n : Node) (together : GoTogether sim
   can : CanBoot s n
   can = accepted_boot s n fine
 
-  alone : (m : Node) → is_alive (mode_of s m) ≡ false
-  alone = ready.none_alive s l together.now at_rest.valid.sound.shaped begins.alone
-
   abbrev behind : StateView
   behind = booted s n
 
@@ -100,37 +102,31 @@ module _ (sim : SimView) (l : LiveSimView) (n : Node) (together : GoTogether sim
   outcome_so p is = (ap (λ (o : Outcome). o.state) is, ap (λ (o : Outcome). o.notices) is)
 
   comes_so : (step sim.pick s this ≡ behind) × ((next s this sim.pick).notices ≡ [])
-  comes_so = outcome_so _ (ready.only_waits s n at_rest.valid can alone begins.waits sim.pick)
+  comes_so = outcome_so _ (ready.only_waits s n at_rest.valid can begins.unready sim.pick)
 
   -- ---- on live nodes
 
   within : n.0 < node_count l.cluster
   within = subst (λ (c : ClusterView). n.0 < node_count c) (sym together.now.cluster) can.node
 
-  some : (is_some_node (mandatory_of l.cluster n) || is_some_node (optional_of l.cluster n)) ≡ true
-  some =
-      subst (λ (c : ClusterView). (is_some_node (mandatory_of c n) || is_some_node (optional_of c n)) ≡ true) (sym together.now.cluster)
-      (ready.names_some s n at_rest.valid can alone begins.waits)
-
-  first_to_wait : IsFirstToWait l n
-  first_to_wait = record {
+  boots : IsBooted l n
+  boots = record {
     reached = at_rest.reached;
-    calls = at_rest.rest.calls;
-    alone = begins.alone;
+    rest = at_rest.rest;
+    waits = begins.waits;
+    touch = begins.touch;
     there = begins.there within;
-    has = begins.live_waits;
-    others = begins.others;
-    some = some;
     within = within;
-    few = few_lives (life_in l n) (incarnation_of s n) (together.now.begun n can.node) (together.now.limited n can.node);
+    lives = few_lives (life_in l n) (incarnation_of s n) (together.now.begun n can.node) (together.now.limited n can.node);
+    few = begins.few;
   }
 
   -- the system behind it
   abbrev last : SystemView
-  last = waiting.last l n first_to_wait
+  last = waiting.behind l n boots
 
   over : IsOver l last
-  over = waiting.over l n first_to_wait together.now.cells
+  over = waiting.over l n boots together.now.cells
 
   abbrev cells : List Cell
   cells = written l last.nodes.cells (net_behind (net_in l) last) over.inside
@@ -138,8 +134,9 @@ module _ (sim : SimView) (l : LiveSimView) (n : Node) (together : GoTogether sim
   -- ---- both tell the same behind it
 
   clock_so : (net_in (with_step cells l)).clock ≡ (net_in l).clock
-  unfolding forgotten rested
-  clock_so = ap (λ (v : NetView). v.clock) (net_so l last.nodes.cells (net_behind (net_in l) last) over.inside)
+  unfolding forgotten
+  clock_so =
+      ap (λ (v : NetView). v.clock) (net_so l last.nodes.cells (net_behind (net_in l) last) over.inside) ∙ waiting.same_clock l n boots
 
   module _ (k : Node) (inside : k.0 < node_count s.cluster) where
     node_then : live_at_node (with_step cells l) k ≡ option_and_then live_in (slice_get last.nodes.cells k.0)
@@ -156,24 +153,24 @@ module _ (sim : SimView) (l : LiveSimView) (n : Node) (together : GoTogether sim
     mode_then : mode_of_phase (phase_in (with_step cells l) k) ≡ mode_of behind k
     unfolding forgotten
     mode_then = ap mode_of_phase phase_so ∙ elim (cases_eq k.0 n.0) [
-      | inl here ↦ ap (λ (v : LiveView). mode_of_phase v.phase) (waiting.node_first l n first_to_wait k here)
-          ∙ sym (ready.mode_here s n at_rest.valid can alone begins.waits k here)
-      | inr other ↦ ap (λ (v : LiveView). mode_of_phase v.phase) (waiting.node_other l n first_to_wait k other) ∙ together.now.modes k inside
-          ∙ sym (ready.mode_there s n at_rest.valid can alone begins.waits k other)
+      | inl here ↦ ap (λ (v : LiveView). mode_of_phase v.phase) (waiting.node_first l n boots k here)
+          ∙ sym (ready.mode_here s n at_rest.valid can k here)
+      | inr other ↦ ap (λ (v : LiveView). mode_of_phase v.phase) (waiting.node_other l n boots k other) ∙ together.now.modes k inside
+          ∙ sym (ready.mode_there s n at_rest.valid can k other)
     ]
 
     begun_then : life_in (with_step cells l) k ≡ incarnation_of behind k
     unfolding forgotten
     begun_then = life_so ∙ elim (cases_eq k.0 n.0) [
-      | inl here ↦ ap (λ (v : LiveView). v.life) (waiting.node_first l n first_to_wait k here)
+      | inl here ↦ ap (λ (v : LiveView). v.life) (waiting.node_first l n boots k here)
           ∙ ap (λ (count : ℕ). count + 1) (together.now.begun n can.node)
-          ∙ sym (ready.begun_here s n at_rest.valid can alone begins.waits k here)
-      | inr other ↦ ap (λ (v : LiveView). v.life) (waiting.node_other l n first_to_wait k other) ∙ together.now.begun k inside
-          ∙ sym (ready.begun_there s n at_rest.valid can alone begins.waits k other)
+          ∙ sym (ready.begun_here s n at_rest.valid can k here)
+      | inr other ↦ ap (λ (v : LiveView). v.life) (waiting.node_other l n boots k other) ∙ together.now.begun k inside
+          ∙ sym (ready.begun_there s n at_rest.valid can k other)
     ]
 
   cluster_then : behind.cluster ≡ s.cluster
-  cluster_then = ready.cluster_so s n at_rest.valid can alone begins.waits
+  cluster_then = ready.cluster_so s n at_rest.valid can
 
   inside_then : (k : Node) → k.0 < node_count behind.cluster → k.0 < node_count s.cluster
   inside_then k inside = subst (λ (c : ClusterView). k.0 < node_count c) cluster_then inside
@@ -181,10 +178,10 @@ module _ (sim : SimView) (l : LiveSimView) (n : Node) (together : GoTogether sim
   tells : TellTheSame behind (with_step cells l)
   tells = record {
     cluster = together.now.cluster ∙ sym cluster_then;
-    clock = clock_so ∙ together.now.clock ∙ sym (ready.time_so s n at_rest.valid can alone begins.waits);
+    clock = clock_so ∙ together.now.clock ∙ sym (ready.time_so s n at_rest.valid can);
     modes = λ k inside. mode_then k (inside_then k inside);
     begun = λ k inside. begun_then k (inside_then k inside);
-    limited = λ k inside. ready.begun_within s n at_rest.valid can alone begins.waits k inside;
+    limited = λ k inside. ready.begun_within s n at_rest.valid can k inside;
     cells = subst (λ (count : ℕ). node_count l.cluster < count)
         (sym (length-set last.nodes.cells (node_count l.cluster) (cell.Net (net_behind (net_in l) last)))) over.inside;
   }
@@ -192,8 +189,7 @@ module _ (sim : SimView) (l : LiveSimView) (n : Node) (together : GoTogether sim
   -- ---- and answer it alike
 
   happens : happened (net_in l) last ≡ record { answer = Told verdict.Done; lines = [] }
-  unfolding forgotten rested
-  happens = nothing_happened (net_in l) last refl at_rest.rest.calls
+  happens = nothing_happened (net_in l) last (waiting.no_events l n boots) (waiting.no_calls l n boots)
 
   text : answer_text sim.cluster (reply.Done (next s this sim.pick).notices)
       ≡ reply_text (with_step cells l) (live_reply.Step (live.Done (happened (net_in l) last)))
@@ -207,25 +203,82 @@ module _ (sim : SimView) (l : LiveSimView) (n : Node) (together : GoTogether sim
 
   alike : IsAnsweredAlike (call.Step this) sim l × GoTogether (served sim (call.Step this)).sim (made_by (call.Step this) l)
   alike =
-      made_alike sim l this cells (happened (net_in l) last) together room fine live_fine (waiting.steps_so l n first_to_wait)
-      (waiting.comes_to l n first_to_wait) told text
+      made_alike sim l this cells (happened (net_in l) last) together room fine live_fine (waiting.steps_so l n boots)
+      (waiting.comes_to l n boots) told text
 
   rests : AreBothAtRest (served sim (call.Step this)).sim (made_by (call.Step this) l)
-  rests = both_rest sim l this last together room at_rest fine live_fine (waiting.steps_so l n first_to_wait) over
+  rests = both_rest sim l this last together room at_rest fine live_fine (waiting.steps_so l n boots) over
+
+  made_so : made_by (call.Step this) l ≡ with_step cells l
+  made_so = made sim l this last together room at_rest fine live_fine (waiting.steps_so l n boots) over
+
+  -- and so they are wherever undo and redo lead
+  rests_always : AreAlwaysAtRest sim l → AreAlwaysAtRest (served sim (call.Step this)).sim (made_by (call.Step this) l)
+  rests_always always = accepted_rest sim l this cells together room always fine made_so rests
+
+  -- ---- the live nodes stay in touch
+
+  abbrev then : LiveSimView
+  then = with_step cells l
+
+  net_then : net_in then ≡ net_behind (net_in l) last
+  net_then = net_so l last.nodes.cells (net_behind (net_in l) last) over.inside
+
+  alive_then : (k : Node) → is_alive_at (held then) k ≡ true → is_alive_at last k ≡ true
+  unfolding forgotten
+  alive_then k alive =
+      over.idle.listed k
+      (subst (λ (v : NetView). IsAmong k v.alive) net_then (((alive_listed (held then) (reached_again l last over)).exactly k).1 alive))
+
+  touch_then : StayInTouch then
+  unfolding forgotten
+  touch_then = record {
+    see = λ j k one other apart.
+        subst (λ (v : NetView). are_linked j k v.links ≡ true) (sym net_then)
+        (waiting.all_see_all l n boots j k (alive_then j one) (alive_then k other) apart);
+    stay = λ k alive. elim (cases_eq k.0 (node_count l.cluster)) [
+      | inl none ↦ absurd (false≢true (sym (over.nobody k none) ∙ alive_then k alive))
+      | inr node ↦ ap (λ (o : Option Cell). is_ending (unwrap_or (option_and_then live_in o) never_begun))
+          (written_elsewhere last.nodes.cells (node_count l.cluster) k.0 (cell.Net (net_behind (net_in l) last)) node)
+          ∙ waiting.all_stay l n boots k (alive_then k alive)
+    ];
+  }
+
+  touch : StayInTouch (made_by (call.Step this) l)
+  touch = subst StayInTouch (sym made_so) touch_then
 
   answer : (served sim (call.Step this)).reply ≡ reply.Done []
   answer = ap (λ (v : Served). v.reply) (manual sim this fine room.steps) ∙ ap reply.Done comes_so.1
 
 -- ---- refused or not
 
-pub boots_alike : FirstBootsAreAnsweredAlike
-boots_alike sim l n together room at_rest begins =
+-- what it asks is so at least where the boot isn't refused
+pub boots_if : (sim : SimView) (l : LiveSimView) (n : Node) → GoTogether sim l → HasRoom sim l → AreBothAtRest sim l → StayInTouch l
+    → (refused (state_of sim) (event.Boot n) ≡ None → BeginsAndWaitsOn n sim l) → IsBootedAlike n sim l
+boots_if sim l n together room at_rest in_touch begins =
     let both : IsAnsweredAlike (call.Step (event.Boot n)) sim l
     × GoTogether (served sim (call.Step (event.Boot n))).sim (made_by (call.Step (event.Boot n)) l) =
-    refused_or_made sim l (event.Boot n) refl refl together (λ fine live_fine. alike sim l n together room at_rest begins fine live_fine) in (
+    refused_or_made sim l (event.Boot n) refl refl together
+    (λ fine live_fine. alike sim l n together room at_rest (begins fine) fine live_fine) in (
       both.0,
       both.1,
       unchanged_or_made AreBothAtRest sim l (event.Boot n) refl refl together at_rest
-          (λ fine live_fine. rests sim l n together room at_rest begins fine live_fine),
-      λ fine. answer sim l n together room at_rest begins fine (nodes_events_alike sim l (event.Boot n) together refl ∙ fine),
+          (λ fine live_fine. rests sim l n together room at_rest (begins fine) fine live_fine),
+      λ fine. answer sim l n together room at_rest (begins fine) fine (nodes_events_alike sim l (event.Boot n) together refl ∙ fine),
+      unchanged_or_made (λ (_ : SimView). StayInTouch) sim l (event.Boot n) refl refl together in_touch
+          (λ fine live_fine. touch sim l n together room at_rest (begins fine) fine live_fine),
     )
+
+-- and so it goes on, wherever undo and redo lead
+pub goes_on_if : (sim : SimView) (l : LiveSimView) (n : Node) → GoTogether sim l → HasRoom sim l → AreAlwaysAtRest sim l
+    → IsBootedAlike n sim l → (refused (state_of sim) (event.Boot n) ≡ None → BeginsAndWaitsOn n sim l)
+    → GoesOn (call.Step (event.Boot n)) sim l
+goes_on_if sim l n together room always all begins = record {
+  alike = all.0;
+  together = all.1;
+  rest = unchanged_or_made AreAlwaysAtRest sim l (event.Boot n) refl refl together always
+      (λ fine live_fine. rests_always sim l n together room always.now (begins fine) fine live_fine always);
+}
+
+pub waiting_alike : WaitingBootsAreAnsweredAlike
+waiting_alike sim l n together room at_rest begins = boots_if sim l n together room at_rest begins.touch (λ fine. begins)

@@ -1,1 +1,3 @@
 pub mod Boots
+pub mod Waiting
+pub mod Calls

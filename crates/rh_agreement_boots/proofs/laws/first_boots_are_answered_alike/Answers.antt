@@ -1,5 +1,5 @@
-use Rattle.rh_agreement_boots.proofs.BootAlike.{boots_alike}
+use Rattle.rh_agreement_boots.proofs.Alone.{first_alike}
 use Rattle.rh_agreement_boots.proofs.laws.first_boots_are_answered_alike.Goals as goal
 
 pub returns : goal.returns
-returns c = boots_alike
+returns c = first_alike
