@@ -7,7 +7,7 @@ pub mod Stepping
 mod Quiet
 mod Ending
 mod Crashing
-mod Bounded
+pub mod Bounded
 mod CrashAlike
 pub mod Rest
 pub mod Peace

@@ -169,7 +169,7 @@ module _ (sim : SimView) (l : LiveSimView) (e : Event) (together : GoTogether si
   pub live_made : made_by (call.Step e) l ≡ stepped_with (net_in l) e l
   live_made = ap (λ (o : Option Refusal). stepped_if o (net_in l) e l) accepted
 
-  live_told : reply_to (call.Step e) l ≡ live_reply.Step (outcome_with (net_in l) e l)
+  pub live_told : reply_to (call.Step e) l ≡ live_reply.Step (outcome_with (net_in l) e l)
   live_told = ap (λ (o : Option Refusal). live_reply.Step (outcome_if o (net_in l) e l)) accepted
 
 -- An event that neither refuses is answered alike, where both tell the same of it and the same behind it.

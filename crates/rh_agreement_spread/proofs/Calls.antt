@@ -27,7 +27,8 @@ step_on (event.Start n a restart) sim l together room rest (inl is) = start_on s
 step_on (event.Start n a restart) sim l together room rest (inr is) = wait_on sim l n a restart together room rest.now is.0 is.1 rest
 step_on e sim l together room rest is = absurd is
 
-call_on : (c : Call) (sim : SimView) (l : LiveSimView) → GoTogether sim l → AreAlwaysAtRest sim l → IsOfAnyOrCalm c sim l → GoesOn c sim l
+pub call_on : (c : Call) (sim : SimView) (l : LiveSimView) → GoTogether sim l → AreAlwaysAtRest sim l → IsOfAnyOrCalm c sim l
+    → GoesOn c sim l
 call_on (call.Step e) sim l together rest (inl is) = step_on e sim l together is.0 rest is.1
 call_on (call.Step e) sim l together rest (inr is) = calm.call_on (call.Step e) sim l together rest is
 call_on c sim l together rest is = calm.call_on c sim l together rest is

@@ -325,7 +325,7 @@ module _ (lives : Node → ℕ) (c : Call) (told : Bool) (most : ℕ) (base : Sy
       (λ n among. false_from_ne_true (is_to_end n s) (λ can. none_can s _ f none (move.End n, (quiet, among, can), refl))))
 
   -- the place that an order takes is one of these
-  place_within : (order : Order) (count : ℕ) → 0 < count → place_in order count < count
+  pub place_within : (order : Order) (count : ℕ) → 0 < count → place_in order count < count
   place_within FirstComes count some = some
   place_within LastComes count some = omega arith
   place_within (Drawn number) count some = omega (arith, some)

@@ -1,26 +1,26 @@
-mod Summing
-mod Hearing
-mod Following
-mod Alike
+pub mod Summing
+pub mod Hearing
+pub mod Following
+pub mod Alike
 mod Ended
-mod Speaking
+pub mod Speaking
 mod Over
-mod Told
+pub mod Told
 mod StopAlike
 mod Placed
-mod HearingStarts
-mod Running
+pub mod HearingStarts
+pub mod Running
 mod StartTurns
 mod Starting
-mod StartAlike
+pub mod StartAlike
 mod Waiting
 mod WaitTold
 mod Away
-mod WaitAlike
-mod Calls
+pub mod WaitAlike
+pub mod Calls
 mod RowsCluster
 mod Rows
 mod RowsStart
-mod RowsPair
-mod RowsTwo
-mod RowsTwoCalls
+pub mod RowsPair
+pub mod RowsTwo
+pub mod RowsTwoCalls

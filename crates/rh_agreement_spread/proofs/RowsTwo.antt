@@ -85,10 +85,10 @@ use Rattle.rh_otp_model.specs.declared.message.Message.TheVariants as message
 use Rattle.rh_otp_net.specs.declared.timers.Timer.{Timer}
 use Rattle.rh_agreement_spread.proofs.RowsPair.{a, b, web, two, file, within}
 
-abbrev new_sim : SimView
+abbrev pub new_sim : SimView
 new_sim = opened two First
 
-abbrev new_live : LiveSimView
+abbrev pub new_live : LiveSimView
 new_live = live_opened two (file ∷ file ∷ []) FirstComes
 
 -- ---- by the manual's rules the first one waits for the second, and then both are up
@@ -152,7 +152,7 @@ node_waiting = record {
   kinds = [];
 }
 
-abbrev last_one : SystemView
+abbrev pub last_one : SystemView
 last_one = record {
   cluster = two;
   files = file ∷ file ∷ [];
@@ -187,7 +187,7 @@ last_one_is : rested (settled most_moves FirstComes (live_booted a (held new_liv
 unfolding controller_start controller_stop controller_permit controller_top_ends controller_do_start controller_change controller_received controller_spawn_starter controller_reply_to_requester controller_has_started controller_start_reply dist_finish dist_runs_elsewhere dist_take_over dist_permit dist_get_nodes dist_start_here dist_is_to_start dist_find_start_node dist_start_distributed dist_start_appl dist_check_waiting dist_node_down dist_introduced_to dist_handle_next dist_del_t_reqs dist_run dist_answer_ends dist_not_run dist_stopped dist_new_node dist_answer_permits dist_app_started dist_app_stopped dist_weight_told dist_restart dist_new_permission net_to_connect node_controlled_by node_terminated_by node_handled_by node_introduced_by system_lock_call system_wait_for_lock system_behind_sync system_go_on_call system_call_received system_connect system_delivered system_slowed system_waited_for system_booted system_called system_fired_next system_ticked system_is_ticked system_down_told system_taken_down system_ended system_stopped system_join system_has_seen system_boot_next system_made system_rested system_forgotten system_told system_after system_take_lock system_gone system_handled system_work system_mailed
 last_one_is = refl
 
-abbrev live_one : LiveSimView
+abbrev pub live_one : LiveSimView
 live_one = with_step (cells_behind (net_in new_live) 2 last_one) new_live
 
 -- each knows the other then
@@ -240,10 +240,10 @@ live_two = with_step (cells_behind (net_in live_one) 2 last_two) live_one
 
 -- ---- live nodes are at rest behind each boot
 
-abbrev IsLater : EntryView → Type 0
+abbrev pub IsLater : EntryView → Type 0
 IsLater e = 0 < e.timeout
 
-no_timeouts : (k : ℕ) → All IsLater (own_at (held new_live) (numbered k)).entries
+pub no_timeouts : (k : ℕ) → All IsLater (own_at (held new_live) (numbered k)).entries
 unfolding forgotten
 no_timeouts zero = All-cons IsLater _ [] (omega arith) (All-nil IsLater)
 no_timeouts (suc zero) = All-cons IsLater _ [] (omega arith) (All-nil IsLater)
@@ -292,7 +292,7 @@ one_ends (suc (suc (suc k))) = refl
 one_nobody : (k : ℕ) → k ≡ 2 → is_alive_at last_one (numbered k) ≡ false
 one_nobody k is = ap (λ (j : ℕ). is_alive_at last_one (numbered j)) is
 
-one_over : IsOver new_live last_one
+pub one_over : IsOver new_live last_one
 one_over = record {
   inside = omega arith;
   idle = record {
@@ -397,7 +397,7 @@ tells_one = record {
   cells = omega arith;
 }
 
-together_one : GoTogether sim_one live_one
+pub together_one : GoTogether sim_one live_one
 together_one =
     one_more new_sim new_live (event.Boot a) (cells_behind (net_in new_live) 2 last_one)
     (begin_together two First (file ∷ file ∷ []) FirstComes) (subst (λ (s : StateView). TellTheSame s live_one) (sym one_is) tells_one)
@@ -436,7 +436,7 @@ accepted_two : refused state_one (event.Boot b) ≡ None
 unfolding refused
 accepted_two = refl
 
-valid_one : IsValid (state_of sim_one)
+pub valid_one : IsValid (state_of sim_one)
 unfolding step
 valid_one = next_valid (first two) (event.Boot a) First (first_valid two within) accepted_one
 

@@ -95,7 +95,7 @@ none_else zero = refl
 none_else (suc zero) = refl
 none_else (suc (suc k)) = refl
 
-needs_none : (k : ℕ) → list_any (is_dep web) (deps_of two (app_numbered k)) ≡ false
+pub needs_none : (k : ℕ) → list_any (is_dep web) (deps_of two (app_numbered k)) ≡ false
 needs_none zero = refl
 needs_none (suc k) = refl
 
@@ -114,7 +114,7 @@ can_two = record {
   unneeded = λ x waits. needs_none x.0;
 }
 
-can_place : CanBePlaced (state_of sim_two) a web
+pub can_place : CanBePlaced (state_of sim_two) a web
 can_place = subst (λ (s : StateView). CanBePlaced s a web) (sym state_two_is) can_two
 
 first_dist : (k : ℕ) (d : DistView) → k ≡ 0 → (node_at (held live_two) (numbered k)).dist ≡ Some d → dist_up (b ∷ a ∷ []) ≡ d
@@ -135,7 +135,7 @@ nobody_two (suc zero) = refl
 nobody_two (suc (suc zero)) = refl
 nobody_two (suc (suc (suc k))) = refl
 
-can_place_live : CanBePlacedLive live_two a web
+pub can_place_live : CanBePlacedLive live_two a web
 unfolding forgotten
 can_place_live = record {
   own = refl;
@@ -160,16 +160,16 @@ can_place_live = record {
   nowhere = λ m other alive. nobody_two m.0;
 }
 
-room_two : HasRoom sim_two live_two
+pub room_two : HasRoom sim_two live_two
 room_two = record { steps = omega arith; calls = omega arith }
 
-abbrev sim_three : SimView
+abbrev pub sim_three : SimView
 sim_three = (served sim_two (call.Step (event.Start a web Temporary))).sim
 
-abbrev live_three : LiveSimView
+abbrev pub live_three : LiveSimView
 live_three = made_by (call.Step (event.Start a web Temporary)) live_two
 
-place_row : IsAnsweredAlike (call.Step (event.Start a web Temporary)) sim_two live_two
+pub place_row : IsAnsweredAlike (call.Step (event.Start a web Temporary)) sim_two live_two
     × GoTogether sim_three live_three
     × AreBothAtRest sim_three live_three
     × ((served sim_two (call.Step (event.Start a web Temporary))).reply ≡ reply.Done (notice.Started web a Normal None ∷ []))
@@ -177,7 +177,7 @@ place_row = starts_alike sim_two live_two a web Temporary together_two room_two 
 
 -- ---- behind it, by the manual's rules
 
-abbrev state_three : StateView
+abbrev pub state_three : StateView
 state_three = record state_two { running = (web ∷ []) ∷ [] ∷ []; standings = Running a ∷ [] }
 
 start_is : step First state_two (event.Start a web Temporary) ≡ state_three
@@ -189,24 +189,24 @@ accepted : refused state_two (event.Start a web Temporary) ≡ None
 unfolding refused missing_dep
 accepted = refl
 
-sim_is : sim_three ≡ with_event sim_two (event.Start a web Temporary)
+pub sim_is : sim_three ≡ with_event sim_two (event.Start a web Temporary)
 sim_is =
     ap (λ (s : Served). s.sim)
     (manual sim_two (event.Start a web Temporary)
     (ap (λ (s : StateView). refused s (event.Start a web Temporary)) state_two_is ∙ accepted) (omega arith))
 
-state_so : state_of sim_three ≡ state_three
+pub state_so : state_of sim_three ≡ state_three
 state_so = ap state_of sim_is ∙ ap (λ (s : StateView). step First s (event.Start a web Temporary)) state_two_is ∙ start_is
 
 -- ---- and on live nodes
 
-abbrev running_dist : DistView
+abbrev pub running_dist : DistView
 running_dist = record (dist_up (b ∷ a ∷ [])) {
   started = web ∷ [];
   appls = record { standing = standing.Local; losses = 0 } ∷ [];
 }
 
-abbrev running_node : LiveView
+abbrev pub running_node : LiveView
 running_node = record (node_up (b ∷ a ∷ [])) {
   controller = record (node_up []).controller {
     running = (web, Here) ∷ [];
@@ -217,13 +217,13 @@ running_node = record (node_up (b ∷ a ∷ [])) {
 }
 
 -- the second one knows where it runs
-abbrev told_dist : DistView
+abbrev pub told_dist : DistView
 told_dist = record (dist_up (a ∷ b ∷ [])) { remote_started = (web, a) ∷ [] }
 
-abbrev told_node : LiveView
+abbrev pub told_node : LiveView
 told_node = record (node_up (a ∷ b ∷ [])) { dist = Some told_dist }
 
-abbrev last : SystemView
+abbrev pub last : SystemView
 last = record {
   cluster = two;
   files = file ∷ file ∷ [];
@@ -257,14 +257,14 @@ last = record {
   ends_soon = false;
 }
 
-live_is : live_three ≡ with_step (cells_behind (net_in live_two) 2 last) live_two
+pub live_is : live_three ≡ with_step (cells_behind (net_in live_two) 2 last) live_two
 unfolding acted acted_at_once is_acted is_quiet_at_once controller_start controller_stop controller_permit controller_top_ends controller_do_start controller_change controller_received controller_spawn_starter controller_reply_to_requester controller_has_started controller_start_reply dist_finish dist_runs_elsewhere dist_take_over dist_permit dist_get_nodes dist_start_here dist_is_to_start dist_find_start_node dist_start_distributed dist_start_appl dist_check_waiting dist_node_down dist_introduced_to dist_handle_next dist_del_t_reqs dist_run dist_answer_ends dist_not_run dist_stopped dist_new_node dist_answer_permits dist_app_started dist_app_stopped dist_weight_told dist_restart dist_new_permission net_to_connect node_controlled_by node_terminated_by node_handled_by node_introduced_by system_lock_call system_wait_for_lock system_behind_sync system_go_on_call system_call_received system_connect system_delivered system_slowed system_waited_for system_booted system_called system_fired_next system_ticked system_is_ticked system_down_told system_taken_down system_ended system_stopped system_join system_has_seen system_boot_next system_made system_rested system_forgotten system_told system_after system_take_lock system_gone system_handled system_work system_mailed
 live_is = refl
 
-abbrev live_then : LiveSimView
+abbrev pub live_then : LiveSimView
 live_then = with_step (cells_behind (net_in live_two) 2 last) live_two
 
-room_three : HasRoom sim_three live_three
+pub room_three : HasRoom sim_three live_three
 room_three = record {
   steps = subst (λ (s : SimView). s.cursor < trail_limit) (sym sim_is) (omega arith);
   calls = subst (λ (l : LiveSimView). (net_in l).last_call < 4000000000) (sym live_is) (omega arith);
@@ -286,7 +286,7 @@ can_wait_then = record {
   behind = refl;
 }
 
-can_wait : CanWait (state_of sim_three) b web
+pub can_wait : CanWait (state_of sim_three) b web
 can_wait = subst (λ (s : StateView). CanWait s b web) (sym state_so) can_wait_then
 
 can_wait_live_then : CanWaitLive live_then b web
@@ -304,7 +304,7 @@ can_wait_live_then = record {
   stays = refl;
 }
 
-can_wait_live : CanWaitLive live_three b web
+pub can_wait_live : CanWaitLive live_three b web
 can_wait_live = subst (λ (l : LiveSimView). CanWaitLive l b web) (sym live_is) can_wait_live_then
 
 wait_row : IsAnsweredAlike (call.Step (event.Start b web Temporary)) sim_three live_three

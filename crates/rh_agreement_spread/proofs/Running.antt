@@ -86,7 +86,7 @@ abbrev AreTold : (Node → ℕ) → Call → ℕ → ℕ → Envelope → Type 0
 AreTold lives c most k e = IsSaid lives c e × (cost most e ≡ k) × (owed e ≡ 0)
 
 -- where each counts for two
-sum_of_twos : (f : Envelope → ℕ) (es : List Envelope) → All (λ (e : Envelope). f e ≡ 2) es → sum_of f es ≡ 2 * length es
+pub sum_of_twos : (f : Envelope → ℕ) (es : List Envelope) → All (λ (e : Envelope). f e ≡ 2) es → sum_of f es ≡ 2 * length es
 sum_of_twos f [] all = omega arith
 sum_of_twos f (e ∷ es) all =
     let one : f e ≡ 2 = All-head (λ (x : Envelope). f x ≡ 2) e es all in
@@ -96,7 +96,7 @@ sum_of_twos f (e ∷ es) all =
 -- ---- another node's controller learns it
 
 -- nothing is seen where it doesn't run there
-seen_none : (m : Node) (a : App) (x : ControllerView) → is_here (keyfind a x.running) ≡ false → seen_by m a x ≡ []
+pub seen_none : (m : Node) (a : App) (x : ControllerView) → is_here (keyfind a x.running) ≡ false → seen_by m a x ≡ []
 seen_none m a x not_here = by x.is_ending (keyfind a x.running) (has_row a x.started) not_here
   where
     by : (b : Bool) (o : Option Place) (k : Bool) → is_here o ≡ false → cond b [] (stops_at m a o k) ≡ []
@@ -107,7 +107,7 @@ seen_none m a x not_here = by x.is_ending (keyfind a x.running) (has_row a x.sta
     by false (Some Nowhere) k away = refl
 
 -- and it doesn't run there then
-not_here_then : (a : App) (n : Node) (x : ControllerView) → is_here (keyfind a x.running) ≡ false
+pub not_here_then : (a : App) (n : Node) (x : ControllerView) → is_here (keyfind a x.running) ≡ false
     → is_here (keyfind a (moved_by a n x).running) ≡ false
 not_here_then a n x away = by x.is_ending
   where

@@ -82,14 +82,14 @@ use Rattle.rh_agreement_spread.proofs.Speaking.{lives_in}
 use Rattle.rh_agreement_spread.proofs.Starting as starting
 use Rattle.rh_agreement_spread.proofs.Summing.{sum_of}
 
-few_calls : (last : ℕ) → last < 4000000000 → last < 2 ^ 32 - 1
+pub few_calls : (last : ℕ) → last < 4000000000 → last < 2 ^ 32 - 1
 few_calls last few = omega (arith, few)
 
 none_owed : (k : ℕ) → k ≡ 0 → k ≡ 1 → ⊥
 none_owed k none one = omega (arith, none, one)
 
 -- where all that an application needs runs, nothing is missing
-none_missing : (s : StateView) (n : Node) (deps : List Dep) → list_all (dep_runs s n) deps ≡ true
+pub none_missing : (s : StateView) (n : Node) (deps : List Dep) → list_all (dep_runs s n) deps ≡ true
     → find (λ (d : Dep). not (dep_runs s n d)) deps ≡ None
 none_missing s n [] all = refl
 none_missing s n (d ∷ deps) all =

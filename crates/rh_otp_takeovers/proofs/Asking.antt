@@ -126,15 +126,15 @@ asked_second c restart nodes s = record s {
 }
 
 -- as it waits for that
-abbrev waiting_for : Call → List Node → SystemView → SystemView
+abbrev pub waiting_for : Call → List Node → SystemView → SystemView
 waiting_for c nodes s = record s { calls = at_stage c (stage.Lock nodes) ∷ []; messages = [] }
 
 -- is that lock free for it?
-abbrev is_free_for : Call → List Node → SystemView → Bool
+abbrev pub is_free_for : Call → List Node → SystemView → Bool
 is_free_for c nodes s = is_free (Alone (process_of c)) (alive_of s nodes) s.locks
 
 -- it takes the lock if that is free, and else waits for it
-takes_lock : (c : Call) (restart : Restart) (nodes : List Node) (s : SystemView) → c.ask ≡ ask.Takeover restart
+pub takes_lock : (c : Call) (restart : Restart) (nodes : List Node) (s : SystemView) → c.ask ≡ ask.Takeover restart
     → s.calls ≡ at_stage c stage.Nodes ∷ [] → s.messages ≡ [] → is_alive_at s c.node ≡ true → (node_at s c.node).life ≡ c.life
     → arrived (process_of c) (message.Nodes nodes) s
     ≡ cond (is_free_for c nodes s) (asked_second c restart nodes s) (waiting_for c nodes s)

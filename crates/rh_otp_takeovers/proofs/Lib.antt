@@ -1,10 +1,10 @@
 mod Holding
-mod Asking
-mod Taking
+pub mod Asking
+pub mod Taking
 mod Moving
-mod Telling
+pub mod Telling
 mod Meeting
-mod Running
+pub mod Running
 pub mod Takeover
 mod Rows
 mod Failing

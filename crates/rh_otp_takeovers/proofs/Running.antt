@@ -46,18 +46,18 @@ use Rattle.rh_otp_takeovers.proofs.Meeting.{orderly}
 -- ---- its turn
 
 -- what it tells them
-abbrev its_news : App → Option Dep → TurnView → Message
+abbrev pub its_news : App → Option Dep → TurnView → Message
 its_news a error t = message.AppStarted t.here.node a error
 
 -- it tells them, and answers the one that waits
-abbrev ran_over : Call → Option Dep → TurnView → TurnView
+abbrev pub ran_over : Call → Option Dep → TurnView → TurnView
 ran_over c error t = answer (process_of c) (outcome_of error) (record t {
   state = record (with_standing c.app (standing_behind error) t.state) { t_reqs = [] };
   out = t.out ++ posts t.here.node (its_news c.app error t) t.state.known;
 })
 
 -- so it does where that one alone waits
-runs_so : (c : Call) (error : Option Dep) (t : TurnView) → t.state.t_reqs ≡ (c.app, process_of c) ∷ []
+pub runs_so : (c : Call) (error : Option Dep) (t : TurnView) → t.state.t_reqs ≡ (c.app, process_of c) ∷ []
     → run c.app error t ≡ ran_over c error t
 unfolding run del_t_reqs
 runs_so c error t one =
@@ -82,7 +82,7 @@ known_so None = refl
 known_so (Some d) = refl
 
 -- what stands last is carried out last
-one_more : (n : Node) (outs : List Output) (o : Output) (s : SystemView)
+pub one_more : (n : Node) (outs : List Output) (o : Output) (s : SystemView)
     → all_carried_out n (outs ++ o ∷ []) s ≡ carried_out n o (all_carried_out n outs s)
 one_more n [] o s = refl
 one_more n (x ∷ outs) o s = one_more n outs o (carried_out n x s)

@@ -93,7 +93,7 @@ its_change lives c restart m =
     for_controller lives c.node (dist_of c.node (lives c.node)) (message.Change c.app (change_of.Takeover m (Some restart)))
 
 -- it notes that the application is taken over, keeps the caller, and tells its controller
-abbrev taking : Call → Restart → Node → TurnView → TurnView
+abbrev pub taking : Call → Restart → Node → TurnView → TurnView
 taking c restart m t = record t {
   state = record (with_standing c.app standing.Takeover t.state) { t_reqs = (c.app, process_of c) ∷ t.state.t_reqs };
   out = t.out ++ output.Send (record {

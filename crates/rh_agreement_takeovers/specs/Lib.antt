@@ -1,0 +1,3 @@
+pub mod Takeovers
+pub mod Calls
+pub mod Refused
