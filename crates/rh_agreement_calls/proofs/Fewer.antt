@@ -47,7 +47,7 @@ module _ (s t : StateView) (cluster_so : t.cluster ≡ s.cluster) (modes : t.mod
       λ i. list_all (λ (m : Node). is_alive (unwrap_or (slice_get (modes i) m.0) mode.Down))
       (mandatory_of (cluster_so i) n ++ optional_of (cluster_so i) n)
 
-  none_ready : (n : Node) → is_ready t n ≡ false
+  pub none_ready : (n : Node) → is_ready t n ≡ false
   unfolding is_ready
   none_ready n =
       ap (λ (c : ClusterView). is_waiting (mode_of t n) && has_others t n (sync_wait_of c n)) cluster_so
@@ -98,7 +98,7 @@ module _ (s t : StateView) (valid : IsValid s) (lessens : Lessens s t) where
   started_by n a true runs is may = or_left (runs_at s n a) (waits_at s n a) (lessens.fewer.ran n a runs)
   started_by n a false runs is may = or_right (runs_at s n a) (waits_at s n a) (lessens.fewer.waited n a is may).0
 
-  could_run : (a : App) (n : Node) → is_operational t a n ≡ true → is_operational s a n ≡ true
+  pub could_run : (a : App) (n : Node) → is_operational t a n ≡ true → is_operational s a n ≡ true
   unfolding is_operational
   could_run a n is =
       let up : is_up (mode_of t n) ≡ true = left_true _ _ is in

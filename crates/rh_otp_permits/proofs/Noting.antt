@@ -46,14 +46,14 @@ use Rattle.rh_otp_stops.proofs.Stopping.{told_acts}
 abbrev pub noted : Node → App → Bool → TurnView → TurnView
 noted n a allow t = cond (not (controls t.own a)) t (with_state (with_permission n a allow t.state) t)
 
-notes_so : (n : Node) (a : App) (allow his : Bool) (t : TurnView) → (not allow && his) ≡ false
+pub notes_so : (n : Node) (a : App) (allow his : Bool) (t : TurnView) → (not allow && his) ≡ false
     → new_permission n a allow his t ≡ noted n a allow t
 unfolding new_permission
 notes_so n a true his t quiet = refl
 notes_so n a false false t quiet = refl
 notes_so n a false true t quiet = absurd (false≢true (sym quiet))
 
-notes_whatever : (n : Node) (a : App) (allow : Bool) (w : ℕ) (t : TurnView)
+pub notes_whatever : (n : Node) (a : App) (allow : Bool) (w : ℕ) (t : TurnView)
     → noted n a allow (weighing w t) ≡ weighing w (noted n a allow t)
 notes_whatever n a allow w t = by (not (controls t.own a))
   where

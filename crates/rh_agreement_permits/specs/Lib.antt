@@ -1,0 +1,4 @@
+pub mod Permits
+pub mod Elsewhere
+pub mod Stops
+pub mod Calls
