@@ -12,10 +12,8 @@ hint, some of the random rehearsals part within all others; each other condition
 breaks it alone, and parts at its last command. The careful rehearsals of live_conditions.py, which keep to other conditions, may part
 where lint warns of a step alone.
 
-Of calls for an application which isn't distributed less is asked: where nothing hangs, both answer by the same text, where it runs by both
-reports, a stop, a forbid, and an end that keeps its node by both restart types; and a start, where it is started by neither, forbidden
-by neither, all that it needs runs there by both, and nothing that waits there needs it. That is proved (rh_agreement_calls) where both are
-at rest and no node is on its way to its end, which no report tells.
+Of some kinds of commands less is asked (agreed_calls.py): it is proved that both answer them by the same text, under more conditions than
+are asked there.
 """
 import os
 import sys
@@ -24,7 +22,9 @@ from collections.abc import Callable, Iterable, Iterator
 from dataclasses import dataclass, field
 from typing import Optional
 
+import agreed_calls
 import lint_model
+from agreed_calls import HANGS
 from groups import Group
 from lint_measure import is_in_page, shown, told_of
 from live_conditions import (Condition, State, Step, careful, has_other_platforms, has_other_profile, is_weighed_in_another_order,
@@ -45,10 +45,6 @@ CAREFUL_COUNT, CAREFUL_AT_ONCE = 80, 10
 # At least such shares of the sane rehearsals, and of their commands, have to be within the conditions.
 LEAST_REHEARSALS, LEAST_COMMANDS = 0.1, 0.2
 PARTING = os.path.join(TOP, "tests", "parting")
-# Lines of a report that tell that something hangs, or hasn't ended.
-HANGS = ("starting", "blocked", "open")
-# Calls for applications that aren't distributed, of which it is proved that both answer alike: so many have to be among the random ones.
-LEAST_ALONE = {"stop": 40, "exit": 10, "permit": 60, "start": 20}
 # These findings say nothing of live nodes.
 OF_RULES_ALONE = (lint_model.REFUSED_STEP, lint_model.ANOTHER_PAST)
 
@@ -175,43 +171,6 @@ CONDITIONS = (
     Condition("permit-after-the-end", "No `permit` of an application that was stopped, or has ended", step=is_permitted_where_it_ended))
 
 
-# ---- What is proved of calls
-
-
-def keeps_node(restart: str, how: str) -> bool:
-    """An application of this restart type that ends so doesn't end its node."""
-    return restart == "temporary" or restart == "transient" and how == "normal"
-
-
-def ends_alone(step: Step, states: tuple[State, State]) -> bool:
-    """An application is stopped, forbidden, or ends and keeps its node, where it runs in both states."""
-    node = step.words[1]
-    if not all(step.app in state.running.get(node, []) for state in states):
-        return False
-    if step.word == "permit":
-        return step.words[3] == "false" and step.app not in step.before.forbidden[node]
-    return step.word == "stop" or all(keeps_node(state.types[node, step.app], step.words[3]) for state in states)
-
-
-def starts_alone(step: Step, states: tuple[State, State]) -> bool:
-    """An application is started where it can start in both states, and nothing that waits there in the first needs it."""
-    node, apps = step.words[1], step.cluster.apps
-    needs = [need for need in apps[step.app].needs if need in apps] if step.app in apps else []
-    if step.before.mode.get(node) != "up" or any(step.app in apps[other].needs for other in step.before.waiting[node]):
-        return False
-    return all(not state.is_started(node, step.app) and state.can_run(node, step.app)
-               and all(need in state.running[node] for need in needs) for state in states)
-
-
-def is_alone(step: Step, live: list[str]) -> bool:
-    """A call for an application that isn't distributed, of which it is proved that both answer alike, as far as reports tell: `live` is the
-    report of live nodes before it."""
-    if step.word not in LEAST_ALONE or step.is_spread or any(words_of(line)[0] in HANGS for line in live):
-        return False
-    states = (step.before, state_of(live))
-    return starts_alone(step, states) if step.word == "start" else ends_alone(step, states)
-
-
 # What lint tells: it warns of nothing in the file, and tells nothing of the steps so far, neither warnings nor hints.
 FILE, STEP, HINT, FILE_HINT = "lint-file", "lint-step", "lint-hint", "lint-file-hint"
 SILENT = (FILE, STEP, HINT)
@@ -224,13 +183,13 @@ WITHIN = (*SILENT, *(condition.name for condition in CONDITIONS))
 @dataclass(frozen=True)
 class Judged:
     """A rehearsal: the words of its commands, what each of them breaks, and the place of the first that isn't answered alike. Of those up
-    to there of which it is proved that they are, the words, and whether both texts are the same."""
+    to there that are of a kind of agreed_calls.py, the kinds, and whether both texts are the same."""
     name: str
     kind: str
     commands: list[str]
     broken: list[set[str]]
     first: Optional[int]
-    alone: list[tuple[str, bool]]
+    proved: list[tuple[str, bool]]
 
     def within(self, names: Iterable[str]) -> int:
         """So many commands, from the first one on, break none of these."""
@@ -275,9 +234,9 @@ def judged(program: str, one: Rehearsal) -> Judged:
     first = next((place for place, command in enumerate(commands)
                   if not are_alike(command, manual[2 * place + 1:2 * place + 3], live[2 * place + 1:2 * place + 3])), None)
     common = len(commands) if first is None else first + 1
-    alone = [(step.word, manual[2 * place + 1] == live[2 * place + 1]) for place, step in enumerate(steps[:common])
-             if is_alone(step, live[2 * place])]
-    return Judged(str(one.seed), one.kind, commands, broken, first, alone)
+    kinds = [agreed_calls.kind_of(step, live[2 * place], state_of(live[2 * place])) for place, step in enumerate(steps[:common])]
+    proved = [(kind, manual[2 * place + 1] == live[2 * place + 1]) for place, kind in enumerate(kinds) if kind is not None]
+    return Judged(str(one.seed), one.kind, commands, broken, first, proved)
 
 
 # ---- Counting
@@ -378,8 +337,8 @@ def random_ones(program: str, seeds: range) -> Iterator[Test]:
     found = [judged(program, rehearsal(seed)) for seed in seeds]
     for one in found:
         yield f"both rules alike, rehearsal {one.name}", parting(one, WITHIN)
-        other = next((word for word, is_alike in one.alone if not is_alike), None)
-        yield f"both rules alike, calls alone of rehearsal {one.name}", None if other is None else f"{other} is answered otherwise"
+        other = next((kind for kind, is_alike in one.proved if not is_alike), None)
+        yield f"both rules alike, agreed kinds in rehearsal {one.name}", None if other is None else f"{other} is answered otherwise"
     return found
 
 
@@ -391,9 +350,9 @@ def of_random(parts: list[list[Judged]]) -> Iterator[Test]:
     for what, count, of, least in (("rehearsals", within.rehearsals, whole.rehearsals, LEAST_REHEARSALS),
                                    ("commands", within.commands, whole.commands, LEAST_COMMANDS)):
         yield f"both rules alike: enough {what}", None if count >= least * of else f"{count} of {of} are within the conditions"
-    alone = Counter(word for one in found for word, _ in one.alone)
-    for word, enough in LEAST_ALONE.items():
-        yield f"both rules alike: enough of {word} alone", None if alone[word] >= enough else f"{alone[word]}"
+    proved = Counter(kind for one in found for kind, _ in one.proved)
+    for kind, (_, least) in agreed_calls.KINDS.items():
+        yield f"both rules alike: enough of {kind}", None if proved[kind] >= least else f"{proved[kind]}"
     for name in SILENT:
         is_needed = counts_of(found, without(name)).parted > 0
         yield f"both rules alike: {name} is needed", None if is_needed else "no rehearsal parts without it"

@@ -40,11 +40,12 @@ KEPT_FIRST, KEPT_COUNT, KEPT_AT_ONCE = 70_000, 2_000, 100
 ORDERS = 8
 # At least so many rehearsals have to have such a file, with so many commands within the conditions.
 LEAST_REHEARSALS, LEAST_COMMANDS = 200, 2_000
-# Seeds of random clusters that lose the node at which their one application runs, of some in which it is started, and of some in which it is
-# permitted, forbidden and taken over.
+# Seeds of random clusters that lose the node at which their one application runs, of some in which it is started, of some in which it is
+# permitted, forbidden and taken over, and of some in which a node crashes and comes back.
 LOST_FIRST, LOST_COUNT, LOST_AT_ONCE = 75_000, 200, 50
 BEGIN_FIRST, BEGIN_COUNT, BEGIN_AT_ONCE = 76_000, 200, 50
 MOVE_FIRST, MOVE_COUNT, MOVE_AT_ONCE = 77_000, 200, 50
+RETURN_FIRST, RETURN_COUNT, RETURN_AT_ONCE = 78_000, 200, 50
 # For each condition a rehearsal that breaks it alone, and in which orders part: a script of tests/live, or a random one of a seed; and in
 # how many orders that shows.
 NEEDED: tuple[tuple[str, Union[str, int], int], ...] = (
@@ -232,6 +233,20 @@ def moving(seed: int) -> Rehearsal:
     return booted(seed, cluster, nodes, [chance.choice(calls).format(chance.choice(listed)) for _ in range(6)])
 
 
+def returning(seed: int) -> Rehearsal:
+    """A random cluster with two distributed applications and one that isn't: all nodes boot, and twice a node crashes and boots again, once
+    what is lost may have failed over."""
+    chance = random.Random(seed)
+    nodes, listed = lone(chance, 2, 5)
+    cluster = lone_cluster(chance, nodes, listed, 1_000)
+    cluster.apps, cluster.spreads["d2"] = ["d1", "d2", "l1"], Spread(2_000, [[node] for node in chance.sample(nodes, len(nodes))])
+    cluster.boot = {node: [("l1", chance.choice(TYPES)), *((app, chance.choice(TYPES)) for app in ("d1", "d2") if node in
+                                                           cluster.spreads[app].nodes)] for node in nodes}
+    cluster.permissions = {node: {"d1": False} for node in listed[1:] if chance.random() < 0.3}
+    gone = [chance.choice(nodes) for _ in range(2)]
+    return booted(seed, cluster, nodes, [line for node in gone for line in (f"crash {node}", "tick 3000", f"boot {node}")])
+
+
 def proved_alike(where: str, rehearsals: Iterable[Rehearsal]) -> Iterator[Test]:
     """At none of their commands of a kind of which it is proved two orders part."""
     found = [in_orders(one) for one in rehearsals]
@@ -253,6 +268,11 @@ def beginnings(_program: str, seeds: range) -> Iterator[Test]:
 def moves(_program: str, seeds: range) -> Iterator[Test]:
     """Clusters in which an application moves."""
     return (yield from proved_alike("move", map(moving, seeds)))
+
+
+def returns(_program: str, seeds: range) -> Iterator[Test]:
+    """Clusters in which a node comes back."""
+    return (yield from proved_alike("return", map(returning, seeds)))
 
 
 def enough_of(found: list[Measured], kinds: tuple[Kind, ...]) -> Optional[str]:
@@ -288,6 +308,13 @@ def of_moves(parts: list[list[Measured]]) -> Iterator[Test]:
     found = [one for part in parts for one in part]
     yield "orders of messages: enough moves", enough_of(found, orderly.MOVED)
     yield "orders of messages at moves: the page", is_in_page(rows_of(found, orderly.MOVED))
+
+
+def of_returns(parts: list[list[Measured]]) -> Iterator[Test]:
+    """There are enough boots of nodes that come back, and the page has their count."""
+    found = [one for part in parts for one in part]
+    yield "orders of messages: enough returns", enough_of(found, orderly.RETURNED)
+    yield "orders of messages at returns: the page", is_in_page(rows_of(found, orderly.RETURNED))
 
 
 def by_words(program: str, seeds: range) -> Iterator[Test]:
@@ -343,4 +370,5 @@ TESTS: tuple[Group | Callable[[str], Iterable[Test]], ...] = (
     Group(anywhere, ranges(FIRST, COUNT, AT_ONCE), is_long=True, end=of_anywhere), Group(kept, KEPT, is_long=True, end=of_kept),
     Group(by_words, KEPT), Group(losses, ranges(LOST_FIRST, LOST_COUNT, LOST_AT_ONCE), end=of_losses),
     Group(beginnings, ranges(BEGIN_FIRST, BEGIN_COUNT, BEGIN_AT_ONCE), end=of_beginnings),
-    Group(moves, ranges(MOVE_FIRST, MOVE_COUNT, MOVE_AT_ONCE), end=of_moves), needed)
+    Group(moves, ranges(MOVE_FIRST, MOVE_COUNT, MOVE_AT_ONCE), end=of_moves),
+    Group(returns, ranges(RETURN_FIRST, RETURN_COUNT, RETURN_AT_ONCE), end=of_returns), needed)

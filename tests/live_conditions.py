@@ -34,9 +34,10 @@ from rehearse_tools.otp25.cluster import ClusterFile, Entry, cluster_of  # noqa:
 
 @dataclass
 class State:
-    """A report: the mode of each node, what runs, waits and is forbidden there, where each distributed application stands, and
-    the applications whose failover timer runs."""
+    """A report: the mode of each node and how often it has booted, what runs, waits and is forbidden there, where each distributed
+    application stands, and the applications whose failover timer runs."""
     mode: dict[str, str] = field(default_factory=dict)
+    boots: dict[str, int] = field(default_factory=dict)
     running: dict[str, list[str]] = field(default_factory=dict)
     waiting: dict[str, list[str]] = field(default_factory=dict)
     forbidden: dict[str, list[str]] = field(default_factory=dict)
@@ -61,7 +62,7 @@ def state_of(report: list[str]) -> State:
     for word, *rest in map(words_of, report):
         if word == "node":
             node = rest[0]
-            state.mode[node] = rest[1]
+            state.mode[node], state.boots[node] = rest[1], int(rest[2])
             state.running[node], state.waiting[node], state.forbidden[node] = [], [], []
         elif word in ("running", "waiting", "forbidden"):
             {"running": state.running, "waiting": state.waiting, "forbidden": state.forbidden}[word][node].append(rest[0])

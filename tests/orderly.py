@@ -6,6 +6,8 @@ from collections.abc import Callable
 from dataclasses import dataclass
 from typing import Optional
 
+from agreement import has_tuple
+from live_conditions import lacks_lists
 from live_told import Lines, Told, now_of
 
 from rehearse_tools.inputs import words_of
@@ -88,6 +90,21 @@ def hangs(before: Lines) -> bool:
 def is_call(at: At, word: str) -> bool:
     """It is such a command, where nothing hangs."""
     return at.words[0] == word and not at.hangs
+
+
+# ---- Boots
+
+
+def is_waiting_boot(at: At) -> bool:
+    """A node boots where nothing hangs and each node waits for all others: it waits on, and so do all that wait."""
+    return is_call(at, "boot") and not lacks_lists(at.cluster) and at.told.answer == ("ok", frozenset())
+
+
+def is_return(at: At) -> bool:
+    """A node boots where nothing hangs, each node waits for all others, and all others are up; no list has a tuple, and no failover time is
+    0."""
+    is_such = is_call(at, "boot") and not lacks_lists(at.cluster) and not has_tuple(at.cluster) and at.fails_over_later
+    return is_such and at.told.answer[0] == "ok" and all(at.is_up(node) for node in at.cluster.nodes if node != at.node)
 
 
 # ---- Ends
@@ -219,11 +236,11 @@ def is_forbid_last(at: At) -> bool:
 
 def is_forbid_moving(at: At) -> bool:
     """A distributed application is forbidden where nothing hangs, at the node at which it runs, and of the other nodes of its list, which
-    has no tuple, exactly one is up, and may run it."""
-    if not is_forbid_where_it_runs(at) or any(isinstance(group, tuple) for group in at.cluster.entries[at.app].groups):
+    has no tuple, exactly one is up and may run it."""
+    if not is_forbid_where_it_runs(at):
         return False
-    up = [node for node in at.listed if node != at.node and at.is_up(node)]
-    return len(up) == 1 and up == others_of(at)
+    is_plain = all(isinstance(group, str) for group in at.cluster.entries[at.app].groups)
+    return is_plain and len(others_of(at)) == 1
 
 
 # ---- Failovers
@@ -265,6 +282,7 @@ class Kind:
 
 # Those that are counted in random rehearsals of any kind,
 ANYWHERE = (
+    Kind("A boot of a node that waits on, where each node waits for all others", is_waiting_boot, 500),
     Kind("A crash of a node at rest, where no application has a timeout of 0", is_crash, 200),
     Kind("A failover at one node", is_lone_failover, 25),
     Kind("A stop at a node at rest", lambda at: is_end(at, "stop"), 150),
@@ -282,11 +300,15 @@ BEGUN = (
     Kind("A start of a distributed application at the first node of its list that may run it, which is up", is_start_here, 30),
     Kind("A start of a distributed application at another node, which leaves it to that one", is_start_left, 50),
     Kind("A start of a distributed application that no node of its list that is up may run", is_start_nowhere, 100))
-# and in those in which one application runs, and is permitted, forbidden and taken over.
+# in those in which one application runs, and is permitted, forbidden and taken over,
 MOVED = (
     Kind("A takeover by call", is_takeover, 100),
     Kind("A permit of a distributed application where it waits, at the first node of its list that may run it then", is_permit_here, 30),
     Kind("A permit of a distributed application where it waits, while it runs at the first node of its list that may", is_permit_elsewhere, 30),
     Kind("A forbid of a distributed application where it runs, while no other node that is up may run it", is_forbid_last, 30),
-    Kind("A forbid of a distributed application where it runs, while one other node of its list is up, and may run it", is_forbid_moving, 20))
-ALL = (*ANYWHERE, *LOST, *BEGUN, *MOVED)
+    Kind("A forbid of a distributed application where it runs, while one other node of its list that is up may run it", is_forbid_moving, 20))
+# and in those in which a node crashes and comes back.
+RETURNED = (
+    Kind("A boot of a node that comes back to all others, which are up, where no list has a tuple and no application a timeout of 0",
+         is_return, 200),)
+ALL = (*ANYWHERE, *LOST, *BEGUN, *MOVED, *RETURNED)

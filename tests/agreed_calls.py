@@ -1,0 +1,122 @@
+"""Kinds of commands of which laws prove, under more conditions than are asked here, that both sets of rules answer by the same text
+(rh_agreement_calls, rh_agreement_takeovers, rh_agreement_permits, rh_agreement_boots). Asked is what two reports before them tell. The
+laws are of where both are at rest and no node is on its way to its end, which no report tells; here it is asked that nothing hangs, and
+of a distributed application that each node waits for all others, so that those that are up see one another.
+
+Of an application that isn't distributed: where it runs by both reports a stop, a forbid, and an end that keeps its node by both restart
+types; and a start, where it is started by neither, forbidden by neither, all that it needs runs there by both, and nothing that waits
+there needs it. Of a distributed one: a takeover where it waits by both, and runs by both at the same other node, if it isn't forbidden
+and what it needs runs there by both, and nothing that waits there needs it; and a permission where no node waits and it isn't lost: a
+forbid where it doesn't run, and a permit where it runs. And a boot by which nodes wait on, where each other one that isn't alive has
+never booted: so none has seen one that is gone.
+"""
+from collections.abc import Callable
+from typing import Optional
+
+from live_conditions import State, Step, lacks_lists
+
+from rehearse_tools.inputs import words_of
+
+# Lines of a report that tell that something hangs, or hasn't ended.
+HANGS = ("starting", "blocked", "open")
+States = tuple[State, State]
+
+
+def keeps_node(restart: str, how: str) -> bool:
+    """An application of this restart type that ends so doesn't end its node."""
+    return restart == "temporary" or restart == "transient" and how == "normal"
+
+
+def needs_run(step: Step, states: States) -> bool:
+    """What the application needs runs at the node in both states, and nothing that waits there in the first needs it."""
+    node, apps = step.words[1], step.cluster.apps
+    needs = [need for need in apps[step.app].needs if need in apps] if step.app in apps else []
+    if any(step.app in apps[other].needs for other in step.before.waiting[node]):
+        return False
+    return all(need in state.running[node] for state in states for need in needs)
+
+
+# ---- Of an application that isn't distributed
+
+
+def runs_alone(step: Step, states: States) -> bool:
+    """It isn't distributed, and runs at the node in both states."""
+    return not step.is_spread and all(step.app in state.running.get(step.words[1], []) for state in states)
+
+
+def is_stop(step: Step, states: States) -> bool:
+    """It is stopped where it runs."""
+    return step.word == "stop" and runs_alone(step, states)
+
+
+def is_forbid(step: Step, states: States) -> bool:
+    """It is forbidden where it runs."""
+    is_such = step.word == "permit" and step.words[3] == "false" and runs_alone(step, states)
+    return is_such and step.app not in step.before.forbidden[step.words[1]]
+
+
+def is_exit(step: Step, states: States) -> bool:
+    """It ends where it runs, and that keeps its node."""
+    is_such = step.word == "exit" and runs_alone(step, states)
+    return is_such and all(keeps_node(state.types[step.words[1], step.app], step.words[3]) for state in states)
+
+
+def is_start(step: Step, states: States) -> bool:
+    """It is started where it can start."""
+    if step.word != "start" or step.is_spread or step.before.mode.get(step.words[1]) != "up":
+        return False
+    node = step.words[1]
+    can = all(not state.is_started(node, step.app) and state.can_run(node, step.app) for state in states)
+    return can and needs_run(step, states)
+
+
+# ---- Of a distributed one
+
+
+def runners(state: State, app: str) -> list[str]:
+    """The nodes at which an application runs."""
+    return [node for node, apps in state.running.items() if app in apps]
+
+
+def is_spread_call(step: Step, word: str) -> bool:
+    """An operator calls so of a distributed application, at a node that is up, where each node waits for all others."""
+    is_such = step.word == word and step.is_spread and not lacks_lists(step.cluster)
+    return is_such and step.before.mode.get(step.words[1]) == "up"
+
+
+def is_takeover(step: Step, states: States) -> bool:
+    """It waits at the node, runs at one other, and moves."""
+    if not is_spread_call(step, "takeover"):
+        return False
+    node, one, other = step.words[1], *(runners(state, step.app) for state in states)
+    is_such = len(one) == 1 and one == other and node not in one
+    return is_such and all(step.app in state.waiting[node] and state.can_run(node, step.app) for state in states) and needs_run(step, states)
+
+
+def is_permission(step: Step, states: States) -> bool:
+    """Only the permission changes: it is forbidden where it doesn't run, or permitted where it runs. No node waits, and it isn't lost."""
+    if not is_spread_call(step, "permit") or "waiting" in step.before.mode.values() or step.app in step.before.lost:
+        return False
+    return all((step.app in state.running[step.words[1]]) == (step.words[3] == "true") for state in states)
+
+
+def is_waiting_boot(step: Step, _: States) -> bool:
+    """A node boots where each node waits for all others, and no wait is over behind it; the others that aren't alive have never booted."""
+    if step.word != "boot" or lacks_lists(step.cluster) or step.answer != ["ok"]:
+        return False
+    return not any(mode == "down" and step.before.boots[node] for node, mode in step.before.mode.items() if node != step.words[1])
+
+
+# ---- The kinds
+
+# Each kind, and how many of it have to be among the random rehearsals.
+KINDS: dict[str, tuple[Callable[[Step, States], bool], int]] = {
+    "stop": (is_stop, 40), "exit": (is_exit, 10), "forbid": (is_forbid, 60), "start": (is_start, 20), "takeover": (is_takeover, 100),
+    "permission": (is_permission, 150), "boot that waits": (is_waiting_boot, 3_000)}
+
+
+def kind_of(step: Step, live: list[str], state: State) -> Optional[str]:
+    """Of which kind a command is, or None: `live` is the report of live nodes before it, and `state` what that tells."""
+    if any(words_of(line)[0] in HANGS for line in live):
+        return None
+    return next((kind for kind, (is_such, _) in KINDS.items() if is_such(step, (step.before, state))), None)
