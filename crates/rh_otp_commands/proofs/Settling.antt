@@ -45,7 +45,7 @@ goes (suc most) o s = goes_by most o s (next_move o s) refl (goes most (next_ord
 
 -- ---- what the other makes can be made of the one
 
-reaches_by : (n : ℕ) (s t : SystemView) → Moves n s t → Reaches s t
+pub reaches_by : (n : ℕ) (s t : SystemView) → Moves n s t → Reaches s t
 reaches_by _ _ _ (none s) = here s
 reaches_by _ _ _ (one_more n s u t one rest) = behind_one s u t one (reaches_by n u t rest)
 

@@ -1,0 +1,7 @@
+mod Timely
+mod Muting
+pub mod Firing
+mod Following
+pub mod Ticking
+pub mod Rows
+mod Again
