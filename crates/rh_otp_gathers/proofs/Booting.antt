@@ -298,9 +298,31 @@ module _ (n : Node) (b : SystemView) where
   pushed [] done = done
   pushed (x ∷ xs) done = pushed xs (x ∷ done)
 
-  pub sees_all : (first : List Link) (xs done : List Node) (u : SystemView) → All CanSee xs → (node_at b n).phase ≡ phase.Waiting
-      → 1 ≤ times n b.alive → Saw first done u → Saw first (pushed xs done) (all_seen n xs u)
-  sees_all first [] done u can waits listed saw = saw
-  sees_all first (x ∷ xs) done u can waits listed saw =
-      sees_all first xs (x ∷ done) (seen_at_once n x u) (All-tail CanSee x xs can) waits listed
-      (sees_one first done x u (All-head CanSee x xs can) waits listed saw)
+  -- one that isn't alive isn't seen
+  abbrev pub MaySee : Node → Type 0
+  MaySee x = CanSee x ⊎ (is_alive_at b x ≡ false)
+
+  -- those of a list that are alive
+  abbrev pub alive_of : List Node → List Node
+  alive_of xs = filter (is_alive_at b) xs
+
+  pub sees_all : (first : List Link) (xs done : List Node) (u : SystemView) → All MaySee xs → (node_at b n).phase ≡ phase.Waiting
+      → 1 ≤ times n b.alive → Saw first done u → Saw first (pushed (alive_of xs) done) (all_seen n xs u)
+  sees_all first [] done u may waits listed saw = saw
+  sees_all first (x ∷ xs) done u may waits listed saw =
+      by (All-head MaySee x xs may)
+      (λ more v so. sees_all first xs more v (All-tail MaySee x xs may) waits listed so)
+    where
+      by : MaySee x → ((more : List Node) (v : SystemView) → Saw first more v → Saw first (pushed (alive_of xs) more) (all_seen n xs v))
+          → Saw first (pushed (cond (is_alive_at b x) (x ∷ alive_of xs) (alive_of xs)) done) (all_seen n xs (seen_at_once n x u))
+      by (inl can) rest =
+          subst (λ (c : Bool). Saw first (pushed (cond c (x ∷ alive_of xs) (alive_of xs)) done) (all_seen n xs (seen_at_once n x u))) (sym can.alive)
+          (rest (x ∷ done) (seen_at_once n x u) (sees_one first done x u can waits listed saw))
+      by (inr dead) rest =
+          subst (λ (c : Bool). Saw first (pushed (cond c (x ∷ alive_of xs) (alive_of xs)) done) (all_seen n xs (seen_at_once n x u))) (sym dead)
+          (subst (λ (y : SystemView). Saw first (pushed (alive_of xs) done) (all_seen n xs y)) (sym unseen) (rest done u saw))
+        where
+          unseen : seen_at_once n x u ≡ u
+          unseen =
+              ap (λ (c : Bool). cond c (connecting.with_up n x (connecting.reach n x u)) u)
+              (ap (λ (y : SystemView). is_alive_at y x) saw.is ∙ dead)

@@ -9,7 +9,9 @@ pub mod Owning
 pub mod Meeting
 pub mod Setting
 pub mod Settling
+pub mod Knowing
 pub mod Opening
 mod Rows
 pub mod Booting
+pub mod Begun
 pub mod LastBoot

@@ -1,5 +1,5 @@
 -- Nodes that gather, at the beginning: what is on its way, and what they come to.
-use Rattle.std.proofs.Common.{◌≡◌, ◌≢◌, ◌≤◌, ◌⊎◌, ◌+◌, ◌++◌, ◌==◌, ◌&&◌, ◌||◌, ℕ, zero, suc, Bool, true, false, cond, List, [], ◌∷◌, filter, map, length, replicate, unwrap_or, is_some, Option, Some, None, refl, sym, ap, subst, ◌∙◌, inl, inr, arith}
+use Rattle.std.proofs.Common.{◌≡◌, ◌≢◌, ◌<◌, ◌≤◌, ◌⊎◌, ◌+◌, ◌==◌, ◌&&◌, ◌||◌, ℕ, suc, Bool, true, false, cond, List, [], ◌∷◌, filter, map, length, replicate, slice_get, unwrap_or, is_some, Option, Some, None, refl, sym, ap, subst, ◌∙◌, inl, inr, arith}
 use Rattle.std.specs.Option.{option_map, option_and_then}
 use Rattle.std.specs.Prelude.{All, if◌then◌else◌}
 use Rattle.std.proofs.Math.Bool.{and-false, and-true, or-true, or-false}
@@ -11,9 +11,10 @@ use Rattle.rh_model.specs.ClusterView.{is_in, node_count, app_count}
 use Rattle.rh_model.specs.declared.node.Node.{Node}
 use Rattle.rh_otp_model.specs.declared.output.Envelope.{Envelope}
 use Rattle.rh_otp_dist.specs.State.{DistView, beginning}
-use Rattle.rh_otp_dist.specs.Waiting.{rows_at}
+use Rattle.rh_otp_dist.specs.declared.state.Stand.TheVariants as stand
 use Rattle.rh_otp_net.specs.Links.{linked_with}
 use Rattle.rh_otp_node.specs.declared.node.Phase.{Phase}
+use Rattle.rh_otp_node.specs.declared.node.Phase.TheVariants as phase
 use Rattle.rh_otp_node.specs.Live.{LiveView, never_begun, own_flags, is_up, is_down}
 use Rattle.rh_otp_system.specs.declared.cell.Cell.{Cell}
 use Rattle.rh_otp_system.specs.declared.cell.Cell.TheVariants as cell
@@ -25,14 +26,15 @@ use Rattle.rh_otp_crashes.proofs.Crossing.{same_node}
 use Rattle.rh_otp_crashes.proofs.Turning.{node_is}
 use Rattle.rh_otp_joins.proofs.Arriving.{steady_leads, steady_ends}
 use Rattle.rh_otp_joins.proofs.Going.{the_others, known_first}
-use Rattle.rh_otp_joins.proofs.Introducing.{Told, Learnt, learn, learn_all}
-use Rattle.rh_otp_joins.proofs.Lists.{more_if, count_of}
+use Rattle.rh_otp_joins.proofs.Introducing.{Learnt, learn_all}
+use Rattle.rh_otp_joins.proofs.Lists.{more_if, count_of, in_counted, counted_in_list}
 use Rattle.rh_otp_joins.proofs.Seeing.{seen_linked}
-use Rattle.rh_otp_joins.proofs.Stages.{cell_there}
-use Rattle.rh_otp_gathers.specs.Gathers.{times, is_node_up, tellings, IsTelling, one_if, Gathers, AllGather, KnowsAll, IsGathered, HaveGathered, NodesThatGatherComeToOneState}
+use Rattle.rh_otp_joins.proofs.Stages.{cell_there, allow_in}
+use Rattle.rh_otp_gathers.specs.Gathers.{times, is_node_up, tellings, IsTelling, one_if, Gathers, AllGather, KnowsAll, learnt_of, IsGathered, HaveGathered, NodesThatGatherComeToOneState}
 use Rattle.rh_otp_gathers.proofs.Going.{early}
+use Rattle.rh_otp_gathers.proofs.Knowing.{learnt_known, learnt_count, learnt_runs, is_some_count, in_count, learnt_rows, learnt_may, rows_first, may_first}
 use Rattle.rh_otp_gathers.proofs.Settling.{last_dist, last_live, last_of, ends_up, ends_as, ends_so, no_locks, all_steady}
-use Rattle.rh_otp_gathers.proofs.Stages.{none_in, told_in, friends, letter, Gathering, IsOwned, later_weight, weight_of, IsOf, Stage}
+use Rattle.rh_otp_gathers.proofs.Stages.{told_in, friends, letter, Gathering, IsOwned, later_weight, weight_of, IsOf, Stage}
 use Rattle.rh_otp_gathers.proofs.Tokens.{Token, up, up_of, go_of, hi_of, total}
 
 -- ---- how often
@@ -304,48 +306,6 @@ module _ (s : SystemView) (all : AllGather s) where
 
   -- ---- what a dist_ac knows at the end
 
-  shuffle : (a c d : Bool) → (c || (a || d)) ≡ ((a || c) || d)
-  shuffle true true d = refl
-  shuffle true false d = refl
-  shuffle false true d = refl
-  shuffle false false d = refl
-
-  learnt_known : (o : Told) (x : Node) (nodes : List Node) (l : Learnt) → is_in x (learn_all o nodes l).known ≡ (is_in x nodes || is_in x l.known)
-  learnt_known o x [] l = refl
-  learnt_known o x (y ∷ nodes) l = learnt_known o x nodes (learn o y l) ∙ shuffle (x.0 == y.0) (is_in x nodes) (is_in x l.known)
-
-  no_rows : (m : Node) (number k : ℕ) → rows_at m number (replicate k false) ≡ []
-  no_rows m number zero = refl
-  no_rows m number (suc k) = no_rows m (number + 1) k
-
-  no_runs : (m : Node) (o : Option DistView) → rows_at m 0 (none_in o) ≡ []
-  no_runs m None = refl
-  no_runs m (Some d) = no_rows m 0 (length d.appls)
-
-  learnt_runs : (nodes : List Node) (l : Learnt) → l.runs ≡ [] → (learn_all (told_in s) nodes l).runs ≡ []
-  learnt_runs [] l none = none
-  learnt_runs (y ∷ nodes) l none =
-      learnt_runs nodes (learn (told_in s) y l)
-      ((λ i. none i ++ rows_at y 0 (none_in (node_at s y).dist)) ∙ no_runs y (node_at s y).dist)
-
-  abbrev is_some_count : ℕ → Bool
-  is_some_count zero = false
-  is_some_count (suc k) = true
-
-  in_count : (x : Node) (nodes : List Node) → is_in x nodes ≡ is_some_count (count_of x nodes)
-  in_count x [] = refl
-  in_count x (y ∷ nodes) = by (cases_eq x.0 y.0) (in_count x nodes)
-    where
-      by : (x.0 ≡ y.0) ⊎ (x.0 ≢ y.0) → is_in x nodes ≡ is_some_count (count_of x nodes)
-          → (x.0 == y.0 || is_in x nodes) ≡ is_some_count (more_if (y.0 == x.0) (count_of x nodes))
-      by (inl is) rest =
-          ap (λ (c : Bool). c || is_in x nodes) (eq-eqb x.0 y.0 is)
-          ∙ sym (ap (λ (c : Bool). is_some_count (more_if c (count_of x nodes))) (eq-eqb y.0 x.0 (sym is)))
-      by (inr apart) rest =
-          ap (λ (c : Bool). c || is_in x nodes) (ne_eqb x.0 y.0 apart)
-          ∙ rest
-          ∙ sym (ap (λ (c : Bool). is_some_count (more_if c (count_of x nodes))) (ne_eqb y.0 x.0 (λ is. apart (sym is))))
-
   knows : (m x : Node) → 1 ≤ count_of m s.alive → x.0 ≢ m.0 → is_in x (the_others m s) ≡ (is_in x s.alive && has_dist_at s x)
   knows m x within apart =
       in_count x (the_others m s) ∙ ap is_some_count (others_count m x within) ∙ by (has_dist_at s x)
@@ -354,22 +314,108 @@ module _ (s : SystemView) (all : AllGather s) where
       by true = ap is_some_count (sees_so m x within apart) ∙ sym (in_count x s.alive) ∙ sym (and-true (is_in x s.alive))
       by false = sym (and-false (is_in x s.alive))
 
-  knows_all : (m : Node) (d : DistView) → 1 ≤ count_of m s.alive → KnowsAll m s (last_dist s m d)
-  knows_all m d within = record {
-    idle = refl;
-    synchronised = refl;
-    mail = refl;
-    runs = learnt_runs (the_others m s) (known_first m d) refl;
-    itself =
-        learnt_known (told_in s) m (the_others m s) (known_first m d)
-        ∙ ap (λ (c : Bool). is_in m (the_others m s) || (c || false)) (eq-eqb m.0 m.0 refl)
-        ∙ or-true (is_in m (the_others m s));
-    known = λ x apart.
-        learnt_known (told_in s) x (the_others m s) (known_first m d)
-        ∙ ap (λ (c : Bool). is_in x (the_others m s) || (c || false)) (ne_eqb x.0 m.0 apart)
-        ∙ or-false (is_in x (the_others m s))
-        ∙ knows m x within apart;
-  }
+  -- what it learns of one of these
+  told_so : (x : Node) → is_in x s.alive ≡ true → has_dist_at s x ≡ true → x.0 < node_count s.cluster
+      → (told_in s).allow x ≡ own_flags s.cluster (own_at s x) x
+  told_so x alive has within =
+      ap (allow_in x) ((of_alive x (counted_in_list x s.alive alive)).fresh ∙ ap (λ (c : Bool). cond c (Some (beginning_of x)) None) has)
+      ∙ ap (λ (row : Option (List Bool)). unwrap_or row [])
+      (may_first (node_count s.cluster) (app_count s.cluster) x x (own_flags s.cluster (own_at s x) x) within
+      ∙ ap (λ (c : Bool). cond c (Some (own_flags s.cluster (own_at s x) x)) (Some (replicate (app_count s.cluster) false))) (eq-eqb x.0 x.0 refl))
+
+  module _ (m : Node) (within : 1 ≤ count_of m s.alive) (has : has_dist_at s m ≡ true) where
+    abbrev learnt : Learnt
+    learnt = learn_all (told_in s) (the_others m s) (known_first m (beginning_of m))
+
+    rows_so : length learnt.may ≡ node_count s.cluster
+    rows_so =
+        learnt_rows (told_in s) (the_others m s) (known_first m (beginning_of m))
+        ∙ rows_first (node_count s.cluster) (app_count s.cluster) m (own_flags s.cluster (own_at s m) m)
+
+    may_so : (x : Node) → x.0 < node_count s.cluster → slice_get learnt.may x.0 ≡ Some (learnt_of s x)
+    may_so x inside =
+        learnt_may (told_in s) x (the_others m s) (known_first m (beginning_of m))
+        (let rows : length (beginning_of m).may ≡ node_count s.cluster =
+        rows_first (node_count s.cluster) (app_count s.cluster) m (own_flags s.cluster (own_at s m) m) in
+        omega (arith, rows, inside))
+        ∙ ap (cond (is_in x (the_others m s)) (Some ((told_in s).allow x)))
+        (may_first (node_count s.cluster) (app_count s.cluster) m x (own_flags s.cluster (own_at s m) m) inside)
+        ∙ by (cases_eq x.0 m.0)
+      where
+        nothing : List Bool
+        nothing = replicate (app_count s.cluster) false
+
+        own : Node → List Bool
+        own y = own_flags s.cluster (own_at s y) y
+
+        not_other : is_in m (the_others m s) ≡ false
+        not_other =
+            in_count m (the_others m s)
+            ∙ ap is_some_count (others_count m m within)
+            ∙ ap (λ (k : ℕ). is_some_count (if has_dist_at s m then k else 0)) (not_itself m within)
+            ∙ none (has_dist_at s m)
+          where
+            none : (c : Bool) → is_some_count (if c then 0 else 0) ≡ false
+            none true = refl
+            none false = refl
+
+        other : (c d : Bool) → is_in x s.alive ≡ c → has_dist_at s x ≡ d
+            → cond (c && d) (Some ((told_in s).allow x)) (Some nothing) ≡ Some (if c && d then own x else nothing)
+        other true true alive has_too = ap Some (told_so x alive has_too inside)
+        other true false alive has_too = refl
+        other false d alive has_too = refl
+
+        by : (x.0 ≡ m.0) ⊎ (x.0 ≢ m.0)
+            → cond (is_in x (the_others m s)) (Some ((told_in s).allow x)) (cond (x.0 == m.0) (Some (own m)) (Some nothing))
+            ≡ Some (learnt_of s x)
+        by (inl is) =
+            (λ i. cond (is_in (same_node x m is i) (the_others m s)) (Some ((told_in s).allow x))
+            (cond (eq-eqb x.0 m.0 is i) (Some (own m)) (Some nothing)))
+            ∙ ap (λ (c : Bool). cond c (Some ((told_in s).allow x)) (Some (own m))) not_other
+            ∙ (λ i. Some (if sym (in_counted m s.alive within) i && sym has i then own m else nothing))
+            ∙ ap (λ (y : Node). Some (learnt_of s y)) (sym (same_node x m is))
+        by (inr apart) =
+            (λ i. cond (knows m x within apart i) (Some ((told_in s).allow x))
+            (cond (ne_eqb x.0 m.0 apart i) (Some (own m)) (Some nothing)))
+            ∙ other (is_in x s.alive) (has_dist_at s x) refl refl
+
+    runs_so : learnt.runs ≡ []
+    runs_so = learnt_runs s (the_others m s) (known_first m (beginning_of m)) refl
+
+    knows_all : KnowsAll m s (last_dist s m (beginning_of m))
+    knows_all = record {
+      idle = refl;
+      synchronised = refl;
+      mail = refl;
+      runs = runs_so;
+      itself =
+          learnt_known (told_in s) m (the_others m s) (known_first m (beginning_of m))
+          ∙ ap (λ (c : Bool). is_in m (the_others m s) || (c || false)) (eq-eqb m.0 m.0 refl)
+          ∙ or-true (is_in m (the_others m s));
+      known = λ x apart.
+          learnt_known (told_in s) x (the_others m s) (known_first m (beginning_of m))
+          ∙ ap (λ (c : Bool). is_in x (the_others m s) || (c || false)) (ne_eqb x.0 m.0 apart)
+          ∙ or-false (is_in x (the_others m s))
+          ∙ knows m x within apart;
+      once = λ x apart.
+          (let same : count_of x learnt.known ≡ times x learnt.known = counts_so x learnt.known in
+          let all : count_of x learnt.known ≡ count_of x (the_others m s) + count_of x (m ∷ []) =
+          learnt_count (told_in s) x (the_others m s) (known_first m (beginning_of m)) in
+          let none : count_of x (m ∷ []) ≡ 0 = ap (λ (c : Bool). more_if c 0) (ne_eqb m.0 x.0 (λ is. apart (sym is))) in
+          let others : count_of x (the_others m s) ≡ (if has_dist_at s x then times x s.alive else 0) =
+          others_count m x within
+          ∙ ap (λ (k : ℕ). if has_dist_at s x then k else 0) (sees_so m x within apart ∙ counts_so x s.alive) in
+          omega (arith, same, all, none, others));
+      rows = rows_so;
+      may = may_so;
+      rest = λ i. record (beginning_of m) {
+        stand = stand.Idle;
+        is_synchronised = true;
+        known = learnt.known;
+        remote_started = runs_so i;
+        may = learnt.may;
+      };
+    }
 
   module _ (t : SystemView) (f : Stage gathering 0 t) where
     pub have_gathered : HaveGathered s t
@@ -387,6 +433,13 @@ module _ (s : SystemView) (all : AllGather s) where
       each = λ m within. joined_so m (subst (λ (k : ℕ). 1 ≤ k) (sym (counts_so m s.alive)) within);
       others = λ m none.
           ap (λ (c : Option Cell). unwrap_or (option_and_then live_in c) never_begun) (f.others m (counts_so m s.alive ∙ none));
+      rest = so ∙ (λ i. record s {
+        nodes = t.nodes;
+        messages = [];
+        locks = sym all.locks i;
+        slow = sym (ap (λ (z : SystemView). z.slow) so) i;
+        events = sym (ap (λ (z : SystemView). z.events) so) i;
+      });
     }
       where
         so : t ≡ last_of s t.nodes f.ups
@@ -399,7 +452,15 @@ module _ (s : SystemView) (all : AllGather s) where
           has = ap (λ (v : LiveView). is_some v.dist) is
               ∙ ap (λ (o : Option DistView). is_some (option_map (last_dist s m) o)) (of_alive m within).fresh
               ∙ by (has_dist_at s m);
-          dist = λ d has. known (node_at s m).dist d (sym (ap (λ (v : LiveView). v.dist) is) ∙ has);
+          dist = λ d here.
+              known (has_dist_at s m) refl d
+              (sym (ap (option_map (last_dist s m)) (of_alive m within).fresh) ∙ sym (ap (λ (v : LiveView). v.dist) is) ∙ here);
+          rest = is ∙ (λ i. record (node_at s m) {
+            mandatory = [];
+            optional = [];
+            phase = phase.Up;
+            dist = sym (ap (λ (v : LiveView). v.dist) is) i;
+          });
         }
           where
             is : node_at t m ≡ last_live s m
@@ -409,9 +470,10 @@ module _ (s : SystemView) (all : AllGather s) where
             by true = refl
             by false = refl
 
-            known : (o : Option DistView) (d : DistView) → option_map (last_dist s m) o ≡ Some d → KnowsAll m s d
-            known None d no_one = absurd (none-some d no_one)
-            known (Some e) d same = subst (KnowsAll m s) (same_Some (last_dist s m e) d same) (knows_all m e within)
+            known : (c : Bool) → has_dist_at s m ≡ c → (d : DistView) → option_map (last_dist s m) (cond c (Some (beginning_of m)) None) ≡ Some d
+                → KnowsAll m s d
+            known true has d same = subst (KnowsAll m s) (same_Some (last_dist s m (beginning_of m)) d same) (knows_all m within has)
+            known false has d no_one = absurd (none-some d no_one)
 
 -- every order leads to one state
 pub gathers : NodesThatGatherComeToOneState

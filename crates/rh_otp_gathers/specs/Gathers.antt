@@ -1,6 +1,6 @@
 -- Nodes that all wait, while each is told of all those for which it waits, and that all orders of what comes of it lead to one state.
-use Rattle.std.specs.Prelude.{◌≡◌, ◌≢◌, ◌≤◌, ◌+◌, ◌==◌, ◌&&◌, ◌++◌, ℕ, List, [], map, filter, length, All, Bool, true, false, Some, is_some, if◌then◌else◌}
-use Rattle.rh_model.specs.ClusterView.{is_in}
+use Rattle.std.specs.Prelude.{◌≡◌, ◌≢◌, ◌<◌, ◌≤◌, ◌+◌, ◌==◌, ◌&&◌, ◌++◌, ℕ, List, [], map, filter, length, replicate, slice_get, All, Bool, true, false, Some, is_some, if◌then◌else◌}
+use Rattle.rh_model.specs.ClusterView.{is_in, node_count, app_count}
 use Rattle.rh_model.specs.declared.node.Node.{Node}
 use Rattle.rh_otp_model.specs.declared.message.Message.{Message}
 use Rattle.rh_otp_model.specs.declared.message.Message.TheVariants as message
@@ -8,11 +8,11 @@ use Rattle.rh_otp_model.specs.declared.output.Envelope.{Envelope}
 use Rattle.rh_otp_model.specs.declared.output.Event.TheVariants as event
 use Rattle.rh_otp_model.specs.declared.process.Role.TheVariants as role
 use Rattle.rh_otp_dist.specs.declared.state.Stand.TheVariants as stand
-use Rattle.rh_otp_dist.specs.State.{DistView, is_among}
+use Rattle.rh_otp_dist.specs.State.{DistView, beginning, is_among}
 use Rattle.rh_otp_net.specs.Links.{linked_with}
 use Rattle.rh_otp_node.specs.declared.node.Phase.TheVariants as phase
 use Rattle.rh_otp_node.specs.Kernel as kernel
-use Rattle.rh_otp_node.specs.Live.{first_dist}
+use Rattle.rh_otp_node.specs.Live.{own_flags, first_dist}
 use Rattle.rh_otp_system.specs.declared.slow.Slow.TheVariants as slow
 use Rattle.rh_otp_system.specs.Moves.{Reaches}
 use Rattle.rh_otp_system.specs.State.{SystemView, node_at, own_at, is_up_at, has_dist_at, process_in}
@@ -70,8 +70,13 @@ pub record AllGather (s : SystemView) : Type 0 where
 
 -- ---- what they come to
 
+-- what a dist_ac learns that this node may run: what that one's own file says, where it is alive and has a dist_ac, and else nothing
+abbrev pub learnt_of : SystemView → Node → List Bool
+learnt_of s x = if is_in x s.alive && has_dist_at s x then own_flags s.cluster (own_at s x) x else replicate (app_count s.cluster) false
+
 -- The dist_ac of a node takes whatever comes, and nothing is left of what has come. It has synchronised: it knows itself, and of the others
--- exactly those that are alive and have a dist_ac. It knows of nobody that runs anything.
+-- exactly those that are alive and have a dist_ac, each once. It knows of nobody that runs anything, and of each node of the cluster what
+-- that one may run. All else is as where it began.
 pub record KnowsAll (m : Node) (s : SystemView) (d : DistView) : Type 0 where
   pub idle : d.stand ≡ stand.Idle
   pub synchronised : d.is_synchronised ≡ true
@@ -79,16 +84,28 @@ pub record KnowsAll (m : Node) (s : SystemView) (d : DistView) : Type 0 where
   pub runs : d.remote_started ≡ []
   pub itself : is_among m d.known ≡ true
   pub known : (x : Node) → x.0 ≢ m.0 → is_among x d.known ≡ (is_in x s.alive && has_dist_at s x)
+  pub once : (x : Node) → x.0 ≢ m.0 → times x d.known ≡ (if has_dist_at s x then times x s.alive else 0)
+  pub rows : length d.may ≡ node_count s.cluster
+  pub may : (x : Node) → x.0 < node_count s.cluster → slice_get d.may x.0 ≡ Some (learnt_of s x)
+  pub rest : d ≡ record (beginning (node_count s.cluster) (app_count s.cluster) m (own_flags s.cluster (own_at s m) m)) {
+    stand = stand.Idle;
+    is_synchronised = true;
+    known = d.known;
+    may = d.may;
+  }
 
--- The node is up, in the same life, and its dist_ac knows all others, if it has one.
+-- The node is up, in the same life, and waits for nobody. Its dist_ac knows all others, if it has one, and nothing else of the node has
+-- changed.
 pub record IsGathered (m : Node) (s t : SystemView) : Type 0 where
   pub up : is_up_at t m ≡ true
   pub life : (node_at t m).life ≡ (node_at s m).life
   pub has : is_some (node_at t m).dist ≡ has_dist_at s m
   pub dist : (d : DistView) → (node_at t m).dist ≡ Some d → KnowsAll m s d
+  pub rest : node_at t m ≡ record (node_at s m) { mandatory = []; optional = []; phase = phase.Up; dist = (node_at t m).dist }
 
 -- All have joined, each once, in some order, in which an observer was told so, and in which their boot scripts are to begin. No message is
--- on its way, and nobody has a lock; who is alive, connections and calls are as they were, and so is each node that isn't alive.
+-- on its way, and nobody has a lock; who is alive, connections and calls are as they were, and so is each node that isn't alive, and all
+-- else.
 pub record HaveGathered (s t : SystemView) : Type 0 where
   pub messages : t.messages ≡ []
   pub locks : t.locks ≡ []
@@ -101,6 +118,7 @@ pub record HaveGathered (s t : SystemView) : Type 0 where
   pub slow : t.slow ≡ s.slow ++ map slow.Boot joined
   pub each : (m : Node) → 1 ≤ times m s.alive → IsGathered m s t
   pub others : (m : Node) → times m s.alive ≡ 0 → node_at t m ≡ node_at s m
+  pub rest : t ≡ record s { nodes = t.nodes; messages = []; slow = t.slow; events = t.events }
 
 -- Every order of moves leads to one such state, by the same number of moves.
 abbrev pub NodesThatGatherComeToOneState : Type 0

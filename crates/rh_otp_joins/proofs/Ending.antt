@@ -48,7 +48,7 @@ joined_without n s t f = record {
   };
 }
 
-reached_there : (s t : SystemView) → Reaches s t → IsReached s → IsReached t
+pub reached_there : (s t : SystemView) → Reaches s t → IsReached s → IsReached t
 reached_there _ _ (here s) reached = reached
 reached_there _ _ (behind_one s t u one rest) reached = reached_there t u rest (reached_by s t one reached)
 

@@ -12,7 +12,7 @@ use Rattle.rh_otp_joins.proofs.Lists.{more_if, count_of}
 abbrev pub may_in : List (List Bool) → Node → App → Bool
 may_in rows m a = flag (unwrap_or (slice_get rows m.0) []) a
 
-row_elsewhere : (rows : List (List Bool)) (k j : ℕ) (row : List Bool) → j ≢ k → slice_get (slice_set rows k row) j ≡ slice_get rows j
+pub row_elsewhere : (rows : List (List Bool)) (k j : ℕ) (row : List Bool) → j ≢ k → slice_get (slice_set rows k row) j ≡ slice_get rows j
 row_elsewhere [] k j row other = refl
 row_elsewhere (x ∷ rows) zero zero row other = absurd (other refl)
 row_elsewhere (x ∷ rows) zero (suc j) row other = refl

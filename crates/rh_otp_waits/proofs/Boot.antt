@@ -51,7 +51,7 @@ pub record Starts (s : SystemView) (n : Node) : Type 0 where
 abbrev begins_so : SystemView → Node → LiveView
 begins_so s n = begun s.cluster (own_at s n) n (node_at s n)
 
-tells_by : (s : SystemView) (n : Node) (w : Wait) → HasItWait w → kernel.waits (node_at (begun_at n s) n) ≡ true → s.messages ≡ []
+pub tells_by : (s : SystemView) (n : Node) (w : Wait) → HasItWait w → kernel.waits (node_at (begun_at n s) n) ≡ true → s.messages ≡ []
     → s.slow ≡ [] → Tells (begun_at n s) n (waited w n (begun_at n s))
 tells_by s n wait.Unset has waits none no_slow = absurd has
 tells_by s n wait.Refused has waits none no_slow = absurd has
@@ -78,12 +78,12 @@ itself s n m f is =
 pub others : (s : SystemView) (n m : Node) → Starts s n → m.0 ≢ n.0 → node_at (booted n s) m ≡ node_at s m
 others s n m f other = same_as_begun s n m f ∙ others_same s n m (begins_so s n) other
 
-booted_reached : (s : SystemView) (n : Node) → Starts s n → IsReached (booted n s)
+pub booted_reached : (s : SystemView) (n : Node) → Starts s n → IsReached (booted n s)
 booted_reached s n f = later s (booted n s) f.reached (acts s (booted n s) (begins s n f.there f.waits.down))
 
 -- ---- nobody does anything
 
-begins_unoccupied : (c : ClusterView) (own : OwnView) (n : Node) (d : DistView) → first_dist c own n ≡ Some d → IsUnoccupied d
+pub begins_unoccupied : (c : ClusterView) (own : OwnView) (n : Node) (d : DistView) → first_dist c own n ≡ Some d → IsUnoccupied d
 begins_unoccupied c own n d is = by own.has_dist is
   where
     first : DistView
@@ -201,14 +201,14 @@ waits_from s n f = record {
 
 -- ---- the laws
 
-calm_forgets : (a : SystemView) → IsCalm a → IsCalm (record a { answers = [] })
+pub calm_forgets : (a : SystemView) → IsCalm a → IsCalm (record a { answers = [] })
 calm_forgets a c = record { calls = c.calls; dists = c.dists; ends = c.ends; listed = c.listed }
 
 idle_too : (a : SystemView) (what : Slow) → IsIdle a what → IsIdle (record a { answers = [] }) what
 idle_too a (slow.Connect one two) is = is
 idle_too a (slow.Boot m) is = is
 
-wait_forgets : (heard : Node → Node → Bool) (a : SystemView) → HeardOnly heard a a
+pub wait_forgets : (heard : Node → Node → Bool) (a : SystemView) → HeardOnly heard a a
     → HeardOnly heard (record a { answers = [] }) (record a { answers = [] })
 wait_forgets heard a w = record {
   else = refl;

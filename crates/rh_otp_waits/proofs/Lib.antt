@@ -2,11 +2,11 @@ mod Linking
 mod Growing
 mod Seeing
 mod Going
-mod Naming
+pub mod Naming
 mod Removing
 pub mod Waiting
-mod Meeting
+pub mod Meeting
 pub mod Begun
 pub mod Boot
-mod Together
+pub mod Together
 mod Rows

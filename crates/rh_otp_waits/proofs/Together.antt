@@ -53,7 +53,7 @@ new_waits s is names = record {
 -- ---- where one more begins
 
 -- the node is another one than those that are alive
-starts : (s : SystemView) (n last : Node) → IsReached s → AllWait s → IsThere n s → is_alive_at s n ≡ false → IsThere last s
+pub starts : (s : SystemView) (n last : Node) → IsReached s → AllWait s → IsThere n s → is_alive_at s n ≡ false → IsThere last s
     → is_alive_at s last ≡ false → last.0 ≢ n.0 → Starts s n
 starts s n last reached all there down there_too down_too apart = record {
   reached = reached;
@@ -85,7 +85,7 @@ starts s n last reached all there down there_too down_too apart = record {
         named_see s m k reached apart one.0 back.0 one.1 back.1 alive alive_too
 
 -- each node that is there behind it was there
-was_there : (s t : SystemView) (n m : Node) → Starts s n → HeardOnly (heard_of (begun_at n s) n) (booted n s) t → IsThere m t → IsThere m s
+pub was_there : (s t : SystemView) (n m : Node) → Starts s n → HeardOnly (heard_of (begun_at n s) n) (booted n s) t → IsThere m t → IsThere m s
 was_there s t n m f w there = by (cases_eq m.0 n.0)
   where
     there_then : IsThere m (begun_at n s)
