@@ -188,10 +188,10 @@ abbrev one_asked : Here → App → ControllerView → ControllerView
 one_asked h a x = requested_by ((a, Some (process_at h role.Boot)) ∷ []) x
 
 -- so the script is answered, and nobody waits any more
-abbrev answered_so : Outcome → TurnView → TurnView
+abbrev pub answered_so : Outcome → TurnView → TurnView
 answered_so o t = record t { state = requested_by [] t.state; out = t.out ++ output.Send (its_answer t.here o) ∷ [] }
 
-answers_it : (a : App) (o : Outcome) (c : ClusterView) (own : OwnView) (h : Here) (x : ControllerView)
+pub answers_it : (a : App) (o : Outcome) (c : ClusterView) (own : OwnView) (h : Here) (x : ControllerView)
     → reply_to_requester a o (turn_with c own h (one_asked h a x)) ≡ answered_so o (turn_with c own h (one_asked h a x))
 unfolding reply_to_requester
 answers_it a o c own h x =

@@ -1,6 +1,6 @@
-mod Words
-mod Controlling
-mod Speaking
+pub mod Words
+pub mod Controlling
+pub mod Speaking
 mod Requesting
 mod Running
 mod Underway

@@ -1,0 +1,29 @@
+//! The laws of boot scripts that begin at once. Each function does nothing: its contract is the law.
+
+ghost use Rattle.rh_otp_together.specs.Booted.{BootScriptsComeToOneState};
+ghost use Rattle.rh_otp_together.specs.Together.{BootScriptsEndAlikeTogether};
+
+/// Where the boot scripts of all nodes that are alive are to begin, and nothing has started yet, all that comes of them is alike, in
+/// whatever order scripts begin and messages arrive; and no order has more moves than another one that comes to rest.
+///
+/// Nothing else is left to move then: no message is on its way, no call is open, and nobody has a lock of `global`. Each node that is alive
+/// is up, its script is at its beginning, its controller is as it began, and it has a dist_ac, which takes whatever comes, knows of no
+/// start, and knows of the other nodes exactly those that are alive, each once; the node sees each of these. A boot list has fewer than
+/// 2^64 - 1 entries; each of them stands there once, behind what it needs, and what the node's own `distributed` hasn't got is permitted
+/// there. What the lists have of `distributed` is the same, in the same order, and each dist_ac leaves each of these applications to the
+/// same node, which is alive: to the first of the list that may run it, with no tuple before it, where its own node may run it; else to
+/// some node of the list that may.
+///
+/// What comes of an application that no node may run, of starts that fail, and of boot lists that have their distributed applications in
+/// different orders, where live nodes may wait for one another for ever, isn't covered.
+pub fn boot_scripts_end_alike_together()
+    ensures { BootScriptsEndAlikeTogether }
+{}
+
+/// And so all orders lead to one state, by the same number of moves: however the moves are chosen, so many of them can be made, and behind
+/// them a system stands that is alike to it, and in which nothing moves. In that state each script has come to the end of its list, and
+/// the node's controller knows of each entry where it runs: at the node itself, or at the one to which the dist_acs leave it. Each dist_ac
+/// takes whatever comes, with an empty mailbox, and knows of no start that its node hasn't asked for; and nobody has a lock.
+pub fn boot_scripts_come_to_one_state()
+    ensures { BootScriptsComeToOneState }
+{}
