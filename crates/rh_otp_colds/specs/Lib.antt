@@ -1,0 +1,2 @@
+pub mod Colds
+pub mod Wholes
