@@ -1,5 +1,5 @@
 -- A step that a law of commands is of ends alike at its turn.
-use Rattle.std.proofs.Common.{◌≡◌, ◌⊎◌, ◌+◌, ◌-◌, ◌&&◌, ◌^◌, length, nat_le, nat_lt, ℕ, suc, Bool, true, false, cond, List, [], ◌∷◌, Some, None, refl, sym, ap, subst, ◌∙◌, inl, inr, Option, slice_get}
+use Rattle.std.proofs.Common.{◌≡◌, ◌≢◌, ◌⊎◌, ◌+◌, ◌-◌, ◌&&◌, ◌^◌, length, nat_le, nat_lt, ℕ, suc, Bool, true, false, cond, List, [], ◌∷◌, Some, None, refl, sym, ap, subst, ◌∙◌, inl, inr, Option, slice_get}
 use Rattle.std.proofs.lemmas.Option.{none-some, same_Some}
 use Rattle.rh_calls.specs.declared.call.Call.{Call}
 use Rattle.rh_calls.specs.declared.call.Call.TheVariants as call
@@ -43,6 +43,8 @@ use Rattle.rh_otp_crashes.specs.Crashes.{AreAtRest, FailOverLater}
 use Rattle.rh_otp_crashes.specs.Failovers.{FailsOverAt}
 use Rattle.rh_otp_crashes.proofs.Crash.{crashes_alike}
 use Rattle.rh_otp_crashes.proofs.Failover.{failovers_alike}
+use Rattle.rh_otp_ticks.specs.Moments.{EachMomentIsCovered, passing}
+use Rattle.rh_otp_ticks.proofs.Ticking.{moments_alike}
 use Rattle.rh_otp_stops.proofs.Stop.{stops_alike, exits_alike, forbids_alike}
 use Rattle.rh_otp_starts.proofs.Elsewhere.{elsewhere_alike}
 use Rattle.rh_otp_starts.proofs.Exits.{fatal_exits_alike}
@@ -64,7 +66,12 @@ use Rattle.rh_otp_returns.proofs.Return.{returns_alike}
 use Rattle.rh_otp_scripts.specs.Boots.{GoesOneWay}
 use Rattle.rh_otp_scripts.specs.Scripts.{BootsAlone, CanBoot}
 use Rattle.rh_otp_scripts.proofs.Script as script
-use Rattle.rh_otp_rehearsals.specs.Covered.{IsCovered, boot, boot_waiting, boot_returning, boot_by_script, crash, time, failover, stop, exit, fatal_exit, forbid, permit, permit_alone, start, start_elsewhere, start_here, start_left, start_nowhere, takeover, permit_starts, permit_elsewhere, forbid_stops, forbid_moves, CallIsCovered, EachIsCovered, CoveredRehearsalsEndAlike}
+use Rattle.rh_otp_colds.specs.Colds.{IsColdStart}
+use Rattle.rh_otp_colds.specs.Wholes.{CanStartTogether}
+use Rattle.rh_otp_colds.proofs.Each.{boots_end}
+use Rattle.rh_otp_colds.proofs.Starting.{at_rest}
+use Rattle.rh_otp_together.proofs.Law.{together_alike}
+use Rattle.rh_otp_rehearsals.specs.Covered.{IsCovered, boot, boot_waiting, boot_returning, boot_cold, boot_by_script, crash, time, failover, moments, stop, exit, fatal_exit, forbid, permit, permit_alone, start, start_elsewhere, start_here, start_left, start_nowhere, takeover, permit_starts, permit_elsewhere, forbid_stops, forbid_moves, CallIsCovered, EachIsCovered, CoveredRehearsalsEndAlike}
 use Rattle.rh_otp_rehearsals.specs.Rehearsals.{EventEndsAlike, CallEndsAlike, EachEndsAlike}
 use Rattle.rh_otp_commands.proofs.OneWay.{rest_ends_alike}
 use Rattle.rh_otp_rehearsals.proofs.OneWay.{settles_one_way}
@@ -161,6 +168,12 @@ return_if : (b : Bool) (s : SystemView) (n : Node) → s.answers ≡ [] → IsRe
 return_if true s n none reached rest back can later_so = (returns_alike s n reached rest back can (λ soon. later_so)).0
 return_if false s n none reached rest back can later_so = afresh s none (rest_ends_alike s rest.settled)
 
+cold_if : (b : Bool) (s : SystemView) (n other : Node) → s.answers ≡ [] → IsReached s → IsColdStart s → CanStartTogether s → IsThere n s
+    → is_alive_at s n ≡ false → IsThere other s → other.0 ≢ n.0 → SettlesAlike (cond b (booted n s) s)
+cold_if true s n other none reached cold can there down too apart =
+    (boots_end together_alike s n other reached cold can there down too apart).0
+cold_if false s n other none reached cold can there down too apart = afresh s none (rest_ends_alike s (at_rest s cold).settled)
+
 script_if : (b : Bool) (s t : SystemView) (n : Node) → s.answers ≡ [] → IsReached s → AreAtRest s → IsThere n s → is_alive_at s n ≡ false
     → GoesOneWay (record (booted n s) { answers = [] }) t → BootsAlone n t → CanBoot n t → FailOverLater t
     → SettlesAlike (cond b (booted n s) s)
@@ -234,6 +247,12 @@ fails_over end order s n a none reached rest fails none_more =
           λ quiet. none_due times end order (settled most_moves order u) (over quiet),
         )
 
+passes_moments : (end : ℕ) (order : Order) (s : SystemView) → s.answers ≡ [] → IsReached s → IsSettled (record s { is_ticking = true })
+    → EachMomentIsCovered end (record s { is_ticking = true }) → TickEndsAlike end most_moves order s
+passes_moments end order s none reached at each =
+    let is : record s { is_ticking = true } ≡ passing s = none_counted (record s { is_ticking = true }) none in
+    moments_alike s end most_moves order reached (subst IsSettled is at) (subst (EachMomentIsCovered end) is each)
+
 -- ---- every step
 
 -- what is known of the system in which a command is carried out
@@ -249,12 +268,15 @@ covers _ sim _ b (boot_waiting s n rest there sees waits) =
     (record { reached = b.reached; rest = rest; there = there; sees = sees; waits = waits })
 covers _ sim _ b (boot_returning s n rest back can later_so) =
     return_if (nat_lt n.0 (node_count s.cluster) && nat_lt (node_at s n).life (2 ^ 32 - 1)) s n b.none b.reached rest back can later_so
+covers _ sim _ b (boot_cold s n other cold can there down too apart) =
+    cold_if (nat_lt n.0 (node_count s.cluster) && nat_lt (node_at s n).life (2 ^ 32 - 1)) s n other b.none b.reached cold can there down too apart
 covers _ sim _ b (boot_by_script s t n rest there down goes alone can later_so) =
     script_if (nat_lt n.0 (node_count s.cluster) && nat_lt (node_at s n).life (2 ^ 32 - 1)) s t n b.none b.reached rest there down goes alone can
     later_so
 covers _ sim _ b (crash s n rest later_so) = afresh (crashed n s) (crashed_none n s ∙ b.none) (crashes_alike s n b.reached rest later_so).0
 covers _ sim _ b (time s ms at due) = passes (s.clock + ms) sim.order s b.none at due
 covers _ sim _ b (failover s ms n a rest fails none_more) = fails_over (s.clock + ms) sim.order s n a b.none b.reached rest fails none_more
+covers _ sim _ b (moments s ms at each) = passes_moments (s.clock + ms) sim.order s b.none b.reached at each
 covers _ sim _ b (stop s n a rest can) = asks ask.Stop n a s b.none rest (stops_alike s n a b.reached rest can).0
 covers _ sim _ b (exit s n a is_normal rest can keeps) =
     asks (ask.Exit is_normal) n a s b.none rest (exits_alike s n a is_normal b.reached rest can keeps).0

@@ -12,3 +12,6 @@ mod Reporting
 mod OneWay
 mod Covering
 mod Rows
+mod ColdNames
+mod ColdFailover
+mod RowsCold

@@ -1,10 +1,10 @@
 -- A rehearsal that the laws are of. Of two nodes the one begins, waits for the other until its timeout, and then runs an application; that
 -- one is stopped, which is undone, and the node crashes; and all is undone and done again.
 use Rattle.std.specs.Prelude.{All}
-use Rattle.std.proofs.Common.{◌<◌, zero, inl, inr, ◌≡◌, ◌+◌, ℕ, suc, true, false, Some, None, List, [], ◌∷◌, refl, sym, subst, ◌∙◌}
+use Rattle.std.proofs.Common.{◌<◌, zero, inl, ◌≡◌, ◌+◌, ℕ, suc, true, false, Some, None, List, [], ◌∷◌, refl, sym, subst, ◌∙◌}
 use Rattle.std.proofs.lemmas.Bool.{false≢true}
 use Rattle.std.proofs.lemmas.List.Elements.{All-nil}
-use Rattle.std.proofs.lemmas.Option.{none-some, same_Some}
+use Rattle.std.proofs.lemmas.Option.{none-some}
 use Rattle.rh_calls.specs.declared.call.Call.{Call}
 use Rattle.rh_calls.specs.declared.call.Call.TheVariants as call
 use Rattle.rh_model.specs.ClusterView.{ClusterView, NodeView, numbered, app_numbered}
@@ -39,8 +39,10 @@ use Rattle.rh_otp_system.specs.Moves.{made as system_made}
 use Rattle.rh_otp_system.specs.Resting.{rested as system_rested, forgotten as system_forgotten}
 use Rattle.rh_otp_system.specs.Sending.{told as system_told, after as system_after}
 use Rattle.rh_otp_system.specs.Working.{take_lock as system_take_lock, gone as system_gone, handled as system_handled, work as system_work, mailed as system_mailed}
-use Rattle.rh_otp_system.specs.Doing.{fired_next, next_until, ticking}
+use Rattle.rh_otp_system.specs.Doing.{fired_next, next_until}
 use Rattle.rh_otp_system.specs.Moves.{settled, is_settled_by}
+use Rattle.rh_otp_system.proofs.Moving.{settles}
+use Rattle.rh_otp_net.specs.Timers.{next_due}
 use Rattle.rh_otp_model.specs.Own.{EntryView, controls}
 use Rattle.rh_otp_system.specs.State.{SystemView, node_at, own_at}
 use Rattle.rh_otp_crashes.specs.Crashes.{AreAtRest, FailOverLater}
@@ -49,14 +51,13 @@ use Rattle.rh_otp_sim.specs.Acting.{acted, is_acted, acted_at_once, is_quiet_at_
 use Rattle.rh_otp_sim.specs.Calls.{made_by}
 use Rattle.rh_otp_controller.specs.declared.state.Place.TheVariants.{Here}
 use Rattle.rh_otp_model.specs.Rows.{keyfind}
-use Rattle.rh_otp_net.specs.declared.order.Order.{Order}
 use Rattle.rh_otp_sim.specs.Laws.{behind}
 use Rattle.rh_otp_sim.specs.Refusing.{node_in}
 use Rattle.rh_otp_sim.specs.Sim.{LiveSimView, opened, net_in}
 use Rattle.rh_otp_sim.specs.Stepping.{begun}
-use Rattle.rh_otp_commands.specs.Commands.{SettlesAlike, FiringsEndAlike, TickEndsAlike}
+use Rattle.rh_otp_ticks.specs.Moments.{EachMomentIsCovered, over, otherwise}
 use Rattle.rh_otp_rehearsals.specs.Rehearsals.{EachEndsAlike}
-use Rattle.rh_otp_rehearsals.specs.Covered.{is_over, goes_one_at_a_time, boot, crash, stop, EachIsCovered}
+use Rattle.rh_otp_rehearsals.specs.Covered.{is_over, goes_one_at_a_time, boot, crash, moments, stop, EachIsCovered}
 use Rattle.rh_otp_rehearsals.proofs.Covering.{covered_alike}
 use Rattle.rh_otp_rehearsals.proofs.OneWay.{rest_so, settles_one_way}
 
@@ -117,6 +118,13 @@ at_boot = begun (net_in first) (event.Boot n1) first
 abbrev at_tick : SystemView
 at_tick = begun (net_in waiting) (event.Tick 12000) waiting
 
+-- time begins to pass, and behind the timer
+abbrev passing : SystemView
+passing = record at_tick { is_ticking = true }
+
+abbrev passed : SystemView
+passed = settled most_moves FirstComes (fired_next 12000 passing)
+
 abbrev at_stop : SystemView
 at_stop = begun (net_in up) (event.Stop n1 l1) up
 
@@ -132,12 +140,11 @@ calls =
 
 record Computed : Type 0 where
   boots : goes_one_at_a_time 100 (record (done_first (event.Boot n1) first at_boot) { answers = [] }) ≡ true
-  begins : goes_one_at_a_time 100 (record at_tick { answers = []; is_ticking = true }) ≡ true
-  due : next_until (at_tick.clock + 12000) (ticking most_moves FirstComes at_tick) ≡ Some 12000
-  fires : goes_one_at_a_time 100 (record (fired_next 12000 (ticking most_moves FirstComes at_tick)) { answers = [] }) ≡ true
-  no_more : next_until (at_tick.clock + 12000) (settled most_moves FirstComes (fired_next 12000
-      (ticking most_moves FirstComes at_tick))) ≡ None
-  order : waiting.order ≡ FirstComes
+  begins : is_over passing ≡ true
+  due : next_due passing.timers ≡ Some (12000, 1)
+  fires : goes_one_at_a_time 100 (record (fired_next 12000 passing) { answers = [] }) ≡ true
+  over_soon : is_settled_by most_moves FirstComes (fired_next 12000 passing) ≡ true
+  no_more : next_until (at_tick.clock + 12000) passed ≡ None
   -- the application runs before it is stopped, and where that was undone
   runs : keyfind l1 (node_in up n1).controller.running ≡ Some Here
   ends : keyfind l1 (node_in stopped n1).controller.running ≡ None
@@ -152,8 +159,8 @@ computed = record {
   begins = refl;
   due = refl;
   fires = refl;
+  over_soon = refl;
   no_more = refl;
-  order = refl;
   runs = refl;
   ends = refl;
   runs_again = refl;
@@ -162,17 +169,11 @@ computed = record {
 
 -- ---- so the laws are of it
 
-firing : (times : ℕ)
-    → FiringsEndAlike (suc (suc times)) (at_tick.clock + 12000) most_moves FirstComes (ticking most_moves FirstComes at_tick)
-firing times due found =
-    let s : SystemView = ticking most_moves FirstComes at_tick in
-    subst (λ (time : ℕ). SettlesAlike (fired_next time s) × (is_settled_by most_moves FirstComes (fired_next time s) ≡ true
-    → FiringsEndAlike (suc times) (at_tick.clock + 12000) most_moves FirstComes (settled most_moves FirstComes (fired_next time s))))
-    (same_Some 12000 due (sym computed.due ∙ found))
-    (settles_one_way 100 (fired_next 12000 s) computed.fires, λ quiet time more. absurd (none-some time (sym computed.no_more ∙ more)))
-
-ticks : TickEndsAlike (at_tick.clock + 12000) most_moves FirstComes at_tick
-ticks = record { first = settles_one_way 100 (record at_tick { is_ticking = true }) computed.begins; firings = λ quiet. firing 999998 }
+each_moment : EachMomentIsCovered (at_tick.clock + 12000) passing
+each_moment =
+    otherwise passing passed 12000 1 computed.due (settles_one_way 100 (fired_next 12000 passing) computed.fires)
+    (settles most_moves FirstComes (fired_next 12000 passing)).0
+    ((settles most_moves FirstComes (fired_next 12000 passing)).1 computed.over_soon) (over passed computed.no_more)
 
 -- ---- the stop and the crash by the laws of these
 
@@ -235,7 +236,7 @@ covered : EachIsCovered calls first
 covered = (
   λ accepted. inl (boot at_boot n1 100 computed.boots),
   (
-    λ accepted. inr (subst (λ (order : Order). TickEndsAlike (at_tick.clock + 12000) most_moves order at_tick) (sym computed.order) ticks),
+    λ accepted. inl (moments at_tick 12000 (rest_so passing computed.begins) each_moment),
     (
       λ accepted. inl (stop at_stop n1 l1 (are_at_rest at_stop calm_stop no_dist_stop) can_end),
       (tt, (λ accepted. inl (crash at_crash n1 (are_at_rest at_crash calm_crash no_dist_crash) later), (tt, (tt, (tt, (tt, (tt, tt))))))),
@@ -243,8 +244,8 @@ covered = (
   ),
 )
 
--- There is such a rehearsal: its boot goes one way, its stop and its crash are those of the laws, and the timer that fires lets one thing
--- happen at a time. So each of its commands ends alike at its turn. None is refused.
+-- There is such a rehearsal: its boot goes one way, its stop and its crash are those of the laws, and so is its tick, over one moment, at
+-- which the timer lets one thing happen at a time. So each of its commands ends alike at its turn. None is refused.
 record Row : Type 0 where
   is_covered : EachIsCovered calls first
   ends_alike : EachEndsAlike calls first

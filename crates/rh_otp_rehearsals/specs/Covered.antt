@@ -1,5 +1,5 @@
 -- Steps that a law of commands is of: each of them ends alike at its turn.
-use Rattle.std.specs.Prelude.{◌≡◌, ◌⊎◌, ◌+◌, ◌&&◌, ℕ, zero, suc, List, [], ◌∷◌, Bool, true, false, Some, None}
+use Rattle.std.specs.Prelude.{◌≡◌, ◌≢◌, ◌⊎◌, ◌+◌, ◌&&◌, ℕ, zero, suc, List, [], ◌∷◌, Bool, true, false, Some, None}
 use Rattle.rh_model.specs.ClusterView.{ClusterView}
 use Rattle.rh_model.specs.declared.node.App.{App}
 use Rattle.rh_model.specs.declared.node.Node.{Node}
@@ -29,6 +29,7 @@ use Rattle.rh_otp_sim.specs.Sim.{LiveSimView, opened, net_in}
 use Rattle.rh_otp_sim.specs.Stepping.{begun}
 use Rattle.rh_otp_crashes.specs.Crashes.{AreAtRest, FailOverLater}
 use Rattle.rh_otp_crashes.specs.Failovers.{FailsOverAt, SeesAll}
+use Rattle.rh_otp_ticks.specs.Moments.{EachMomentIsCovered}
 use Rattle.rh_otp_stops.specs.Stops.{CanEnd, KeepsNode}
 use Rattle.rh_otp_starts.specs.Elsewhere.{RunsElsewhere}
 use Rattle.rh_otp_begins.specs.Here.{StartsHere}
@@ -46,6 +47,8 @@ use Rattle.rh_otp_joins.specs.Joins.{ComesBack, uncounted}
 use Rattle.rh_otp_returns.specs.Returns.{CanBootThere}
 use Rattle.rh_otp_scripts.specs.Boots.{GoesOneWay}
 use Rattle.rh_otp_scripts.specs.Scripts.{BootsAlone, CanBoot}
+use Rattle.rh_otp_colds.specs.Colds.{IsColdStart}
+use Rattle.rh_otp_colds.specs.Wholes.{CanStartTogether}
 use Rattle.rh_otp_rehearsals.specs.Rehearsals.{EventEndsAlike, EachEndsAlike}
 
 -- ---- one thing at a time
@@ -81,14 +84,18 @@ goes_one_at_a_time (suc most) s = one_message (goes_one_at_a_time most) s.messag
 
 -- The event, in the system in which it is carried out, meets what a law of commands asks for: a crash or a failover; a stop, an exit or a
 -- forbid; a start, a permit or a fatal exit; a start, a takeover or a permission of a distributed application; a boot of a node that waits
--- on, or comes back to nodes that are up, or a boot that goes one way to where its script begins. Or a node boots one thing at a time, or
--- time passes, while nothing moves and no timer is due.
+-- on, that comes back to nodes that are up, or of a cold start, or a boot that goes one way to where its script begins. Or a node boots one
+-- thing at a time, or time passes, while nothing moves and no timer is due, or over moments at each of which the timers that are due are
+-- left over, are those of a failover, or end alike for another reason.
 pub data IsCovered : Event → SystemView → Type 0 where
   boot : (s : SystemView) (n : Node) (most : ℕ) → goes_one_at_a_time most (record (booted_if n s) { answers = [] }) ≡ true
       → IsCovered (event.Boot n) s
   boot_waiting : (s : SystemView) (n : Node) → AreAtRest s → IsThere n s → AllSeeAll s → WaitsOn n s → IsCovered (event.Boot n) s
   boot_returning : (s : SystemView) (n : Node) → AreAtRest s → ComesBack n s → CanBootThere n s → FailOverLater s
       → IsCovered (event.Boot n) s
+  -- of several nodes that begin one after the other, the last one among them
+  boot_cold : (s : SystemView) (n other : Node) → IsColdStart s → CanStartTogether s → IsThere n s → is_alive_at s n ≡ false
+      → IsThere other s → other.0 ≢ n.0 → IsCovered (event.Boot n) s
   boot_by_script : (s t : SystemView) (n : Node) → AreAtRest s → IsThere n s → is_alive_at s n ≡ false
       → GoesOneWay (uncounted (booted n s)) t → BootsAlone n t → CanBoot n t → FailOverLater t → IsCovered (event.Boot n) s
   crash : (s : SystemView) (n : Node) → AreAtRest s → FailOverLater s → IsCovered (event.Crash n) s
@@ -100,6 +107,9 @@ pub data IsCovered : Event → SystemView → Type 0 where
       → ((t : SystemView) → Reaches (fired_next fails.due (record s { is_ticking = true })) t → IsSettled t
       → next_until (s.clock + ms) t ≡ None)
       → IsCovered (event.Tick ms) s
+  -- each moment until then at which timers are due, however many there are
+  moments : (s : SystemView) (ms : ℕ) → IsSettled (record s { is_ticking = true })
+      → EachMomentIsCovered (s.clock + ms) (record s { is_ticking = true }) → IsCovered (event.Tick ms) s
   stop : (s : SystemView) (n : Node) (a : App) → AreAtRest s → CanEnd n a s → IsCovered (event.Stop n a) s
   exit : (s : SystemView) (n : Node) (a : App) (is_normal : Bool) → AreAtRest s → CanEnd n a s
       → KeepsNode a is_normal (node_at s n).controller → IsCovered (event.Exit n a is_normal) s
