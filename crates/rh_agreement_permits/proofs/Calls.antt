@@ -29,7 +29,7 @@ step_on (event.Permit n a allow) sim l together room rest (inr (inr is)) =
     (forbid_on sim l n a together room rest.now is.1 is.2 rest)
 step_on e sim l together room rest is = absurd is
 
-call_on : (c : Call) (sim : SimView) (l : LiveSimView) → GoTogether sim l → AreAlwaysAtRest sim l → IsPermitOrOther c sim l
+pub call_on : (c : Call) (sim : SimView) (l : LiveSimView) → GoTogether sim l → AreAlwaysAtRest sim l → IsPermitOrOther c sim l
     → GoesOn c sim l
 call_on (call.Step e) sim l together rest (inl is) = step_on e sim l together is.0 rest is.1
 call_on (call.Step e) sim l together rest (inr is) = other.call_on (call.Step e) sim l together rest is

@@ -1,17 +1,17 @@
-mod Unmoved
-mod Coming
-mod Notes
+pub mod Unmoved
+pub mod Coming
+pub mod Notes
 mod Asking
-mod Setting
-mod Permitting
+pub mod Setting
+pub mod Permitting
 mod Forbidden
 mod Hearing
 mod Halting
 mod Stopping
-mod Noted
-mod PermitAlike
+pub mod Noted
+pub mod PermitAlike
 mod FindAlike
 mod ForbidAlike
 pub mod Calls
-mod Rows
+pub mod Rows
 mod RowsElsewhere

@@ -57,7 +57,7 @@ pub record Hears (m : Node) (x : Message) (q : SystemView) : Type 0 where
   pub comes : mailed m x q ≡ with_node m (record (node_at q m) { dist = next }) q
   pub free : (d : DistView) → next ≡ Some d → IsUnoccupied d
 
-hears : (m n : Node) (a : App) (allow his : Bool) (q : SystemView) → is_alive_at q m ≡ true → (not allow && his) ≡ false
+pub hears : (m n : Node) (a : App) (allow his : Bool) (q : SystemView) → is_alive_at q m ≡ true → (not allow && his) ≡ false
     → ((d : DistView) → (node_at q m).dist ≡ Some d → IsUnoccupied d) → Hears m (message.NewPermission n a allow his) q
 hears m n a allow his q alive quiet free = by (node_at q m).dist refl
   where

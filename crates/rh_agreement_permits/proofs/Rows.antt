@@ -118,7 +118,7 @@ permit_row =
 
 -- ---- the second node is forbidden it, which changes nothing else
 
-notes_then : ChangesNoMore state_three b web false
+pub notes_then : ChangesNoMore state_three b web false
 notes_then = record {
   app = omega arith;
   up = refl;
@@ -135,7 +135,7 @@ sees_first (suc zero) alive = refl
 sees_first (suc (suc zero)) alive = absurd (false≢true alive)
 sees_first (suc (suc (suc k))) alive = absurd (false≢true alive)
 
-notes_live_then : NotesAloneLive live_then b web false
+pub notes_live_then : NotesAloneLive live_then b web false
 unfolding forgotten
 notes_live_then = record {
   own = refl;
@@ -161,13 +161,13 @@ note_row =
 
 -- ---- behind it
 
-abbrev sim_four : SimView
+abbrev pub sim_four : SimView
 sim_four = (served sim_three (call.Step (event.Permit b web false))).sim
 
-abbrev live_four : LiveSimView
+abbrev pub live_four : LiveSimView
 live_four = made_by (call.Step (event.Permit b web false)) live_three
 
-abbrev state_four : StateView
+abbrev pub state_four : StateView
 state_four = record state_three { allowed = (true ∷ []) ∷ (false ∷ []) ∷ [] }
 
 permit_is : step First state_three (event.Permit b web false) ≡ state_four
@@ -179,28 +179,28 @@ accepted : refused state_three (event.Permit b web false) ≡ None
 unfolding refused
 accepted = refl
 
-sim_is : sim_four ≡ with_event sim_three (event.Permit b web false)
+pub sim_is : sim_four ≡ with_event sim_three (event.Permit b web false)
 sim_is =
     ap (λ (s : Served). s.sim)
     (manual sim_three (event.Permit b web false)
     (ap (λ (s : StateView). refused s (event.Permit b web false)) state_so ∙ accepted) room_three.steps)
 
-four_so : state_of sim_four ≡ state_four
+pub four_so : state_of sim_four ≡ state_four
 four_so =
     ap state_of (sim_is ∙ ap (λ (s : SimView). with_event s (event.Permit b web false)) three_is)
     ∙ ap (λ (s : StateView). step First s (event.Permit b web false)) (ap state_of (sym three_is) ∙ state_so) ∙ permit_is
 
 -- both know that the second one may not run it
-abbrev first_dist : DistView
+abbrev pub first_dist : DistView
 first_dist = record running_dist { may = (true ∷ []) ∷ (false ∷ []) ∷ [] }
 
-abbrev second_dist : DistView
+abbrev pub second_dist : DistView
 second_dist = record told_dist { may = (true ∷ []) ∷ (false ∷ []) ∷ [] }
 
-abbrev first_node : LiveView
+abbrev pub first_node : LiveView
 first_node = record running_node { dist = Some first_dist }
 
-abbrev second_node : LiveView
+abbrev pub second_node : LiveView
 second_node = record told_node {
   controller = record told_node.controller { permissions = (web, false) ∷ [] };
   dist = Some second_dist;
@@ -240,17 +240,17 @@ last_four = record {
   ends_soon = false;
 }
 
-abbrev live_last : LiveSimView
+abbrev pub live_last : LiveSimView
 live_last = with_step (cells_behind (net_in live_then) 2 last_four) live_then
 
 made_is : made_by (call.Step (event.Permit b web false)) live_then ≡ live_last
 unfolding acted acted_at_once is_acted is_quiet_at_once controller_start controller_stop controller_permit controller_top_ends controller_do_start controller_change controller_received controller_spawn_starter controller_reply_to_requester controller_has_started controller_start_reply dist_finish dist_runs_elsewhere dist_take_over dist_permit dist_get_nodes dist_start_here dist_is_to_start dist_find_start_node dist_start_distributed dist_start_appl dist_check_waiting dist_node_down dist_introduced_to dist_handle_next dist_del_t_reqs dist_run dist_answer_ends dist_not_run dist_stopped dist_new_node dist_answer_permits dist_app_started dist_app_stopped dist_weight_told dist_restart dist_new_permission net_to_connect node_controlled_by node_terminated_by node_handled_by node_introduced_by system_lock_call system_wait_for_lock system_behind_sync system_go_on_call system_call_received system_connect system_delivered system_slowed system_waited_for system_booted system_called system_fired_next system_ticked system_is_ticked system_down_told system_taken_down system_ended system_stopped system_join system_has_seen system_boot_next system_made system_rested system_forgotten system_told system_after system_take_lock system_gone system_handled system_work system_mailed
 made_is = refl
 
-four_is : live_four ≡ live_last
+pub four_is : live_four ≡ live_last
 four_is = ap (made_by (call.Step (event.Permit b web false))) live_is ∙ made_is
 
-room_four : HasRoom sim_four live_four
+pub room_four : HasRoom sim_four live_four
 room_four = record {
   steps = subst (λ (s : SimView). s.cursor < trail_limit)
       (sym (sim_is ∙ ap (λ (s : SimView). with_event s (event.Permit b web false)) three_is)) (omega arith);
@@ -265,7 +265,7 @@ none_else zero other = absurd (other refl)
 none_else (suc zero) other = refl
 none_else (suc (suc k)) other = refl
 
-alone_then : CanRunThereAlone state_four a web
+pub alone_then : CanRunThereAlone state_four a web
 alone_then = record { spread = refl; runs = refl; may = refl; nobody = λ m other. none_else m.0 other }
 
 alone_live : RunsAloneLive a web first_dist
@@ -286,7 +286,7 @@ may_not (suc zero) d other alive has = ap (λ (x : DistView). may_run x b web) (
 may_not (suc (suc zero)) d other alive has = absurd (false≢true alive)
 may_not (suc (suc (suc k))) d other alive has = absurd (false≢true alive)
 
-stops_then : StopsThereLive live_last a web
+pub stops_then : StopsThereLive live_last a web
 unfolding forgotten
 stops_then = record {
   own = refl;
@@ -311,7 +311,7 @@ stops_then = record {
   few = omega arith;
 }
 
-stop_row : IsStoppedAlike (event.Permit a web false) a web sim_four live_four
+pub stop_row : IsStoppedAlike (event.Permit a web false) a web sim_four live_four
 stop_row =
     forbids_alike sim_four live_four a web note_row.1 room_four note_row.2
     (subst (λ (s : StateView). CanRunThereAlone s a web) (sym four_so) alone_then)

@@ -47,7 +47,7 @@ flag_was table n m i j value is before new =
     (λ there so. new here there (sym so ∙ flag)))
 
 -- where no node is ready none comes up
-none_of : (o : Course) → ((n : Node) → is_ready o.state n ≡ false) → (nodes : List Node) → fold come_up_if_ready o nodes ≡ o
+pub none_of : (o : Course) → ((n : Node) → is_ready o.state n ≡ false) → (nodes : List Node) → fold come_up_if_ready o nodes ≡ o
 unfolding come_up_if_ready
 none_of o none [] = refl
 none_of o none (n ∷ nodes) =

@@ -110,7 +110,7 @@ Shown c at true true l =
     (l ≡ event.Started c.app c.node (Takeover at) ∷ event.Stopped c.app at ∷ event.Answered c.number ∷ [])
     ⊎ (l ≡ event.Started c.app c.node (Takeover at) ∷ event.Answered c.number ∷ event.Stopped c.app at ∷ [])
 
-shown_answer : (c : Call) (at : Node) (stopped : Bool) (l : List Event) → Shown c at false stopped l
+pub shown_answer : (c : Call) (at : Node) (stopped : Bool) (l : List Event) → Shown c at false stopped l
     → Shown c at true stopped (l ++ event.Answered c.number ∷ [])
 shown_answer c at false l is = ap (λ (x : List Event). x ++ event.Answered c.number ∷ []) is
 shown_answer c at true l is = inl (ap (λ (x : List Event). x ++ event.Answered c.number ∷ []) is)

@@ -2,13 +2,13 @@ mod Moved
 mod Turns
 mod Question
 mod Beginning
-mod Following
+pub mod Following
 mod Coming
-mod Told
-mod Spoken
-mod Alike
+pub mod Told
+pub mod Spoken
+pub mod Alike
 pub mod Calls
 mod RefusedTold
 mod Refused
-mod Rows
-mod RowsCalls
+pub mod Rows
+pub mod RowsCalls

@@ -85,16 +85,16 @@ use Rattle.rh_rules.specs.declared.refusal.Refusal.TheVariants.{RunsHere, NotRun
 
 -- ---- it is started at the second node, too
 
-abbrev waits_there : Event
+abbrev pub waits_there : Event
 waits_there = event.Start b web Temporary
 
-abbrev sim_four : SimView
+abbrev pub sim_four : SimView
 sim_four = (served sim_three (call.Step waits_there)).sim
 
-abbrev live_four : LiveSimView
+abbrev pub live_four : LiveSimView
 live_four = made_by (call.Step waits_there) live_three
 
-wait_row : IsAnsweredAlike (call.Step waits_there) sim_three live_three
+pub wait_row : IsAnsweredAlike (call.Step waits_there) sim_three live_three
     × GoTogether sim_four live_four
     × AreBothAtRest sim_four live_four
     × ((served sim_three (call.Step waits_there)).reply ≡ reply.Done (notice.Waits web b ∷ []))
@@ -102,7 +102,7 @@ wait_row = waits_alike sim_three live_three b web Temporary place_row.1 room_thr
 
 -- ---- by the manual's rules it waits there
 
-abbrev state_four : StateView
+abbrev pub state_four : StateView
 state_four = record state_three { waiting = [] ∷ (web ∷ []) ∷ [] }
 
 start_is : step First state_three waits_there ≡ state_four
@@ -114,12 +114,12 @@ accepted : refused state_three waits_there ≡ None
 unfolding refused missing_dep
 accepted = refl
 
-sim_four_is : sim_four ≡ with_event sim_three waits_there
+pub sim_four_is : sim_four ≡ with_event sim_three waits_there
 sim_four_is =
     ap (λ (s : Served). s.sim)
     (manual sim_three waits_there (ap (λ (s : StateView). refused s waits_there) state_so ∙ accepted) room_three.steps)
 
-state_four_is : state_of sim_four ≡ state_four
+pub state_four_is : state_of sim_four ≡ state_four
 state_four_is =
     ap state_of sim_four_is
     ∙ ap (λ (s : SimView). state_of (with_event s waits_there)) sim_is
@@ -143,13 +143,13 @@ can_take = subst (λ (s : StateView). CanBeTakenOver s b a web) (sym state_four_
 
 -- ---- and on live nodes
 
-abbrev waiting_dist : DistView
+abbrev pub waiting_dist : DistView
 waiting_dist = record (dist_up (a ∷ b ∷ [])) {
   started = web ∷ [];
   appls = record { standing = standing.Distributed a; losses = 0 } ∷ [];
 }
 
-abbrev waiting_node : LiveView
+abbrev pub waiting_node : LiveView
 waiting_node = record (node_up (a ∷ b ∷ [])) {
   controller = record (node_up []).controller {
     running = (web, At a) ∷ [];
@@ -192,14 +192,14 @@ last_four = record {
   ends_soon = false;
 }
 
-abbrev live_waiting : LiveSimView
+abbrev pub live_waiting : LiveSimView
 live_waiting = with_step (cells_behind (net_in live_then) 2 last_four) live_then
 
 live_waits : made_by (call.Step waits_there) live_then ≡ live_waiting
 unfolding acted acted_at_once is_acted is_quiet_at_once controller_start controller_stop controller_permit controller_top_ends controller_do_start controller_change controller_received controller_spawn_starter controller_reply_to_requester controller_has_started controller_start_reply dist_finish dist_runs_elsewhere dist_take_over dist_permit dist_get_nodes dist_start_here dist_is_to_start dist_find_start_node dist_start_distributed dist_start_appl dist_check_waiting dist_node_down dist_introduced_to dist_handle_next dist_del_t_reqs dist_run dist_answer_ends dist_not_run dist_stopped dist_new_node dist_answer_permits dist_app_started dist_app_stopped dist_weight_told dist_restart dist_new_permission net_to_connect node_controlled_by node_terminated_by node_handled_by node_introduced_by system_lock_call system_wait_for_lock system_behind_sync system_go_on_call system_call_received system_connect system_delivered system_slowed system_waited_for system_booted system_called system_fired_next system_ticked system_is_ticked system_down_told system_taken_down system_ended system_stopped system_join system_has_seen system_boot_next system_made system_rested system_forgotten system_told system_after system_take_lock system_gone system_handled system_work system_mailed
 live_waits = refl
 
-live_four_is : live_four ≡ live_waiting
+pub live_four_is : live_four ≡ live_waiting
 live_four_is = ap (made_by (call.Step waits_there)) live_is ∙ live_waits
 
 second_dist : (k : ℕ) (d : DistView) → k ≡ 1 → (node_at (held live_waiting) (numbered k)).dist ≡ Some d → waiting_dist ≡ d

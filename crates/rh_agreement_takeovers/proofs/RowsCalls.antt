@@ -31,7 +31,7 @@ at_rest_one = record {
 }
 
 -- both nodes have booted, and both are at rest, now and behind each number of steps
-always_two : AreAlwaysAtRest sim_two live_two
+pub always_two : AreAlwaysAtRest sim_two live_two
 always_two =
     then_rest sim_one live_one (event.Boot b) (cells_behind (net_in live_one) 2 last_two) together_one
     (then_rest new_sim new_live (event.Boot a) (cells_behind (net_in new_live) 2 last_one)

@@ -49,7 +49,7 @@ use Rattle.rh_agreement_takeovers.proofs.Following.{IsSaid, answers, tells, is_l
 -- ---- the node at which it ran is told
 
 -- whoever is among these, is alive and has a dist_ac, is told
-told_by : (lives : Node → ℕ) (s : SystemView) (n at : Node) (a : App) (nodes : List Node) → at.0 ≢ n.0 → is_among at nodes ≡ true
+pub told_by : (lives : Node → ℕ) (s : SystemView) (n at : Node) (a : App) (nodes : List Node) → at.0 ≢ n.0 → is_among at nodes ≡ true
     → is_alive_at s at ≡ true → has_dist_at s at ≡ true → 0 < sum_of (told_at at) (mails lives s n (message.AppStarted n a None) nodes)
 told_by lives s n at a [] other among up has = absurd (false≢true among)
 told_by lives s n at a (m ∷ nodes) other among up has =

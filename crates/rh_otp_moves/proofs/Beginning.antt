@@ -164,14 +164,14 @@ report_comes k s rest error f waits kinds allowed asked = by (cases_Bool (is_ali
 -- ---- the dist_ac
 
 -- the others are told, the caller is answered, and nobody waits any more
-abbrev runs_over : App → Option Dep → Process → TurnView → TurnView
+abbrev pub runs_over : App → Option Dep → Process → TurnView → TurnView
 runs_over a error p t = record t {
   state = record (with_standing a (standing_behind error) t.state) { t_reqs = [] };
   out = (t.out ++ posts t.here.node (message.AppStarted t.here.node a error) t.state.known)
       ++ output.Send (record { from = process_at t.here role.DistAc; to = p; message = message.Answer (outcome_of error) }) ∷ [];
 }
 
-runs_so : (a : App) (error : Option Dep) (p : Process) (t : TurnView) → t.state.t_reqs ≡ (a, p) ∷ []
+pub runs_so : (a : App) (error : Option Dep) (p : Process) (t : TurnView) → t.state.t_reqs ≡ (a, p) ∷ []
     → run a error t ≡ runs_over a error p t
 unfolding run del_t_reqs
 runs_so a error p t one =

@@ -5,7 +5,7 @@ mod Late
 mod Chain
 pub mod Halting
 mod Saying
-mod Beginning
+pub mod Beginning
 mod Moving
 mod Calling
 pub mod Taking

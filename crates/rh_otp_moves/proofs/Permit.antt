@@ -80,7 +80,7 @@ its_attempt a p t = record {
 }
 
 -- how its controller is to start it
-abbrev its_change : App → DistView → Change
+abbrev pub its_change : App → DistView → Change
 its_change a d = change_of (verdict_here (standing_of d a) asked.Nobody (remote d a))
 
 pub is_start : (st : Standing) (o : Option Node) → IsStart (change_of (verdict_here st asked.Nobody o))
@@ -92,7 +92,7 @@ is_start (standing.Failover m) o = fails_over m
 is_start (standing.Distributed m) o = takes_over m
 
 -- its controller is told, and the call waits for that, and has its lock no more
-abbrev starts_over : App → Process → TurnView → TurnView
+abbrev pub starts_over : App → Process → TurnView → TurnView
 starts_over a p t =
     let u : TurnView = noted_so a false t in
     record t {
@@ -127,7 +127,7 @@ permit_looks a p t not_here =
     (start_appl a asked.Nobody (Some (before_permit a p (noted_so a b t).state)) (noted_so a b t))) not_here
     ∙ looks (its_attempt a p (noted_so a false t)) (standing_of t.state a) (noted_so a false t) not_here
 
-chooses : (a : App) (p : Process) (t : TurnView) → IsChosen t.own t.here.node a (with_permission t.here.node a true t.state)
+pub chooses : (a : App) (p : Process) (t : TurnView) → IsChosen t.own t.here.node a (with_permission t.here.node a true t.state)
     → start_distributed (its_attempt a p (noted_so a false t)) (noted_so a false t) ≡ starts_over a p t
 unfolding start_distributed find_start_node is_to_start start_here finish
 chooses a p t r =
