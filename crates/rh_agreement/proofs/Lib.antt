@@ -4,7 +4,7 @@ mod Reversing
 pub mod Refusing
 pub mod Resting
 pub mod Stepping
-mod Quiet
+pub mod Quiet
 mod Ending
 mod Crashing
 pub mod Bounded

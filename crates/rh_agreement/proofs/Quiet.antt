@@ -48,7 +48,7 @@ use Rattle.rh_agreement.proofs.Stepping.{written, net_so, node_so, made_alike, r
 -- ---- by the manual's rules
 
 -- where no timer is due none fires
-none_fires : (pick : Pick) (k limit : ℕ) (o : Course) → due_by limit (earliest o.state) ≡ None → fired_by pick k limit o ≡ o
+pub none_fires : (pick : Pick) (k limit : ℕ) (o : Course) → due_by limit (earliest o.state) ≡ None → fired_by pick k limit o ≡ o
 unfolding fired_by
 none_fires pick zero limit o none = refl
 none_fires pick (suc k) limit o none =

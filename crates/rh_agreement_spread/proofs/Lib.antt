@@ -7,7 +7,7 @@ pub mod Speaking
 mod Over
 pub mod Told
 mod StopAlike
-mod Placed
+pub mod Placed
 pub mod HearingStarts
 pub mod Running
 mod StartTurns

@@ -47,16 +47,16 @@ use Rattle.rh_agreement_spread.specs.Starts.{CanBePlaced}
 
 -- ---- places in a list
 
-before_not_behind : (p q : Option ℕ) → comes_before p q ≡ true → comes_before q p ≡ false
+pub before_not_behind : (p q : Option ℕ) → comes_before p q ≡ true → comes_before q p ≡ false
 before_not_behind None q is = absurd (false≢true is)
 before_not_behind (Some i) None is = refl
 before_not_behind (Some i) (Some j) is = grind (arith, nat_tests, is)
 
-not_before_itself : (p : Option ℕ) → comes_before p p ≡ false
+pub not_before_itself : (p : Option ℕ) → comes_before p p ≡ false
 not_before_itself None = refl
 not_before_itself (Some i) = grind (arith, nat_tests)
 
-some_so : {A : Type 0} (o : Option A) → is_some o ≡ true → IsSome o
+pub some_so : {A : Type 0} (o : Option A) → is_some o ≡ true → IsSome o
 some_so None is = absurd (false≢true is)
 some_so (Some x) is = refl
 

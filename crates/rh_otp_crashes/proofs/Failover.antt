@@ -32,11 +32,11 @@ use Rattle.rh_otp_crashes.proofs.Waiting.{all_behave}
 
 -- ---- the timers have fired
 
-abbrev fired_over : SystemView → ℕ → List Envelope → SystemView
+abbrev pub fired_over : SystemView → ℕ → List Envelope → SystemView
 fired_over s due messages = record s { clock = due; timers = left s.timers; messages = messages }
 
 -- the message of a loss
-abbrev lost_there : SystemView → App → Node × ℕ → Envelope
+abbrev pub lost_there : SystemView → App → Node × ℕ → Envelope
 lost_there s a row = it_is_lost (lives_of s) row.0 a row.1
 
 all_fire : (s : SystemView) (due step : ℕ) (a : App) (losses : List (Node × ℕ)) (q : SystemView)
@@ -46,7 +46,7 @@ all_fire s due step a (row ∷ losses) q =
     all_fire s due step a losses (fired (timer_of due step a s row) q)
     ∙ (λ i. record q { messages = append_assoc q.messages (lost_there s a row ∷ []) (map (lost_there s a) losses) i })
 
-fires_so : (s : SystemView) (n : Node) (a : App) → (failover : FailsOverAt n a s) → s.messages ≡ []
+pub fires_so : (s : SystemView) (n : Node) (a : App) → (failover : FailsOverAt n a s) → s.messages ≡ []
     → fired_next failover.due s ≡ fired_over s failover.due (map (lost_there s a) failover.losses)
 unfolding fired_next
 fires_so s n a failover none =
@@ -60,7 +60,7 @@ all_mapped : {A : Type 0} (P : Envelope → Type 0) (f : A → Envelope) (xs : L
 all_mapped P f [] each = All-nil P
 all_mapped P f (x ∷ xs) each = All-cons P (f x) (map f xs) (each x) (all_mapped P f xs each)
 
-count_mapped : {A : Type 0} (q : Envelope → Bool) (f : A → Envelope) (xs : List A)
+pub count_mapped : {A : Type 0} (q : Envelope → Bool) (f : A → Envelope) (xs : List A)
     → length (filter q (map f xs)) ≡ length (filter (λ (x : A). q (f x)) xs)
 count_mapped q f [] = refl
 count_mapped {A} q f (x ∷ xs) = by (q (f x)) (count_mapped q f xs)
@@ -79,7 +79,7 @@ is_news s n a row =
     ]
 
 -- no timer fires at the node
-none_there : (s : SystemView) (a : App) (m : Node) (losses : List (Node × ℕ))
+pub none_there : (s : SystemView) (a : App) (m : Node) (losses : List (Node × ℕ))
     → is_among m (map (λ (row : Node × ℕ). row.0) losses) ≡ false → All (IsLater m) (map (lost_there s a) losses)
 none_there s a m [] none = All-nil (IsLater m)
 none_there s a m (row ∷ losses) none =
@@ -112,7 +112,7 @@ phase_of s n a rest failover m other alive = by (cases_Bool (is_among m (map (λ
     by (inl fires_there) = at (failover.others m other fires_there alive)
     by (inr none) = over (none_there s a m failover.losses none)
 
-is_underway : (s : SystemView) (n : Node) (a : App) → IsReached s → AreAtRest s → (failover : FailsOverAt n a s)
+pub is_underway : (s : SystemView) (n : Node) (a : App) → IsReached s → AreAtRest s → (failover : FailsOverAt n a s)
     → Underway (lives_of s) n a (fired_over s failover.due (map (lost_there s a) failover.losses))
 is_underway s n a reached rest failover = record {
   peace = record {

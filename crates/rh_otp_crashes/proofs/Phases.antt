@@ -120,7 +120,7 @@ due m s left is_not (told so) = stale so
 due m s left is_not (ready standby free alive sees none) = stands_by standby free alive sees
 
 -- At its timer a standby waits from now on.
-waits_there : (lives : Node → ℕ) {n : Node} {a : App} (m : Node) (loss : ℕ) (s : SystemView) → m.0 ≢ n.0
+pub waits_there : (lives : Node → ℕ) {n : Node} {a : App} (m : Node) (loss : ℕ) (s : SystemView) → m.0 ≢ n.0
     → (standby : IsStandby (own_in s.files m) m n a (node_at s m)) → IsUnoccupied standby.dist → is_alive_at s n ≡ true
     → (m.0 == n.0 || are_linked m n s.links) ≡ true → (l : List Envelope) (v : LiveView) → live_at s m ≡ Some v
     → v.dist ≡ (node_at s m).dist → v.life ≡ lives m

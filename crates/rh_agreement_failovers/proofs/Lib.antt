@@ -1,0 +1,20 @@
+mod Placed
+mod Turns
+mod Starting
+mod Hearing
+mod Costs
+mod Following
+mod Here
+mod Coming
+mod Settling
+mod Beginning
+mod Ticked
+mod Alike
+pub mod FailAlike
+mod RowsTrio
+mod RowsStates
+mod RowsBoots
+mod RowsUp
+mod RowsLost
+mod RowsStandby
+mod Rows
