@@ -16,6 +16,8 @@ use Rattle.rh_agreement.proofs.Always.{GoesOn}
 use Rattle.rh_agreement.proofs.AtFirst.{begin_at_rest}
 use Rattle.rh_agreement.proofs.Beginning.{begin_together}
 use Rattle.rh_agreement_boots.proofs.Calls.{boot_on}
+use Rattle.rh_agreement_failovers.proofs.FailAlike.{fails_on}
+use Rattle.rh_agreement_grants.proofs.Calls as grants
 use Rattle.rh_agreement_permits.proofs.Calls as permits
 use Rattle.rh_agreement_spread.proofs.Calls as spread
 use Rattle.rh_agreement_takeovers.proofs.Calls as takeovers
@@ -30,7 +32,9 @@ step_on : (e : Event) (sim : SimView) (l : LiveSimView) → GoTogether sim l →
     → GoesOn (call.Step e) sim l
 step_on e sim l together room rest (inl boots) = boots_on e sim l together room rest boots
 step_on e sim l together room rest (inr (inl takes)) = takeovers.step_on e sim l together room rest takes
-step_on e sim l together room rest (inr (inr allows)) = permits.step_on e sim l together room rest allows
+step_on e sim l together room rest (inr (inr (inl allows))) = permits.step_on e sim l together room rest allows
+step_on e sim l together room rest (inr (inr (inr (inl granted)))) = grants.step_on e sim l together room rest granted
+step_on e sim l together room rest (inr (inr (inr (inr fails)))) = fails_on e sim l together room rest fails
 
 call_on : (c : Call) (sim : SimView) (l : LiveSimView) → GoTogether sim l → AreAlwaysAtRest sim l → IsAgreedCall c sim l → GoesOn c sim l
 call_on (call.Step e) sim l together rest (inl is) = step_on e sim l together is.0 rest is.1

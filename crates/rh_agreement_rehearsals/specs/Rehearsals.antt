@@ -20,6 +20,8 @@ use Rattle.rh_agreement.specs.Laws.{HasRoom}
 use Rattle.rh_agreement.specs.Resting.{AreAlwaysAtRest, AreAnsweredAlike, held}
 use Rattle.rh_agreement_boots.specs.Boots.{BeginsToWait}
 use Rattle.rh_agreement_boots.specs.Waiting.{BeginsAndWaitsOn}
+use Rattle.rh_agreement_failovers.specs.Failovers.{IsAFailover}
+use Rattle.rh_agreement_grants.specs.Calls.{IsOfGrants}
 use Rattle.rh_agreement_permits.specs.Calls.{IsOfPermits}
 use Rattle.rh_agreement_spread.specs.Calls.{IsOfAnyOrCalm}
 use Rattle.rh_agreement_takeovers.specs.Calls.{IsTakeover}
@@ -29,9 +31,9 @@ abbrev pub IsBoot : Event → SimView → LiveSimView → Type 0
 IsBoot (event.Boot n) sim live = BeginsToWait n sim live ⊎ BeginsAndWaitsOn n sim live
 IsBoot e sim live = ⊥
 
--- such a boot, a takeover, or a permission
+-- such a boot, a takeover, a permission, or a failover
 abbrev pub IsAgreed : Event → SimView → LiveSimView → Type 0
-IsAgreed e sim live = IsBoot e sim live ⊎ IsTakeover e sim live ⊎ IsOfPermits e sim live
+IsAgreed e sim live = IsBoot e sim live ⊎ IsTakeover e sim live ⊎ IsOfPermits e sim live ⊎ IsOfGrants e sim live ⊎ IsAFailover e sim live
 
 -- or one of the calls of `rh_agreement_spread`: a stop, an exit or a start, a forbid of an application that isn't distributed, a crash, a
 -- tick, or a step back or forth
@@ -49,7 +51,8 @@ abbrev pub AgreedCallsAreAnsweredAlike : Type 0
 AgreedCallsAreAnsweredAlike = (sim : SimView) (live : LiveSimView) (calls : List Call) → GoTogether sim live → AreAlwaysAtRest sim live
     → AreAllAgreed calls sim live → AreAnsweredAlike calls sim live
 
--- So from where no node has begun: of a cluster that a file says, where no node's own `distributed` has a timeout of 0.
+-- So from where no node has begun: of a cluster that a file says, where no node's own `distributed` has a timeout of 0. No node comes up in
+-- that.
 abbrev pub AgreedRehearsalsAreAnsweredAlike : Type 0
 AgreedRehearsalsAreAnsweredAlike = (c : ClusterView) (pick : Pick) (files : List OwnFile) (order : Order) (calls : List Call) → IsWithin c
     → FailOverLater (held (live_opened c files order)) → AreAllAgreed calls (opened c pick) (live_opened c files order)
