@@ -1,14 +1,17 @@
 """Kinds of commands of which laws prove, under more conditions than are asked here, that both sets of rules answer by the same text
-(rh_agreement_calls, rh_agreement_takeovers, rh_agreement_permits, rh_agreement_boots). Asked is what two reports before them tell. The
-laws are of where both are at rest and no node is on its way to its end, which no report tells; here it is asked that nothing hangs, and
-of a distributed application that each node waits for all others, so that those that are up see one another.
+(rh_agreement_calls, rh_agreement_takeovers, rh_agreement_permits, rh_agreement_grants, rh_agreement_failovers, rh_agreement_boots). Asked
+is what two reports before them tell. The laws are of where both are at rest and no node is on its way to its end, which no report tells;
+here it is asked that nothing hangs, and of a distributed application that each node waits for all others, so that those that are up see
+one another.
 
 Of an application that isn't distributed: where it runs by both reports a stop, a forbid, and an end that keeps its node by both restart
 types; and a start, where it is started by neither, forbidden by neither, all that it needs runs there by both, and nothing that waits
 there needs it. Of a distributed one: a takeover where it waits by both, and runs by both at the same other node, if it isn't forbidden
-and what it needs runs there by both, and nothing that waits there needs it; and a permission where no node waits and it isn't lost: a
-forbid where it doesn't run, and a permit where it runs. And a boot by which nodes wait on, where each other one that isn't alive has
-never booted: so none has seen one that is gone.
+and what it needs runs there by both, and nothing that waits there needs it; a permission where no node waits and it isn't lost: a
+forbid where it doesn't run, and a permit where it runs; and a permit where it waits and is forbidden, by which it starts or, in the second
+profile, is called back to the first node that can run it. A tick before which one distributed application is lost by both reports, and in
+which it alone starts. And a boot by which nodes wait on, where each other one that isn't alive has never booted: so none has seen one that
+is gone.
 """
 from collections.abc import Callable
 from typing import Optional
@@ -100,6 +103,45 @@ def is_permission(step: Step, states: States) -> bool:
     return all((step.app in state.running[step.words[1]]) == (step.words[3] == "true") for state in states)
 
 
+def is_grant(step: Step, states: States) -> bool:
+    """It waits at the node, is forbidden there, and runs nowhere; it is wanted by the first rules, and starts there as any other one. No node
+    waits."""
+    if not is_spread_call(step, "permit") or step.words[3] != "true" or "waiting" in step.before.mode.values():
+        return False
+    node = step.words[1]
+    is_such = step.before.standing[step.app][0] == "wanted" and step.answer == ["ok", f"started {step.app} {node} normal"]
+    waits = all(step.app in state.waiting[node] and step.app in state.forbidden[node] for state in states)
+    return is_such and waits and not any(runners(state, step.app) for state in states) and needs_run(step, states)
+
+
+def is_call_back(step: Step, states: States) -> bool:
+    """It waits at the node, is forbidden there, and runs at one other node by both, which its list has later, and no node before that
+    of the call can run it: in the second profile it is called back. No node waits."""
+    if not is_spread_call(step, "permit") or step.words[3] != "true" or "waiting" in step.before.mode.values() or step.cluster.profile != 2:
+        return False
+    node, one, other = step.words[1], *(runners(state, step.app) for state in states)
+    waits = all(step.app in state.waiting[node] and step.app in state.forbidden[node] for state in states)
+    groups = step.cluster.entries[step.app].groups
+    if not waits or len(one) != 1 or one != other or any(isinstance(group, tuple) for group in groups):
+        return False
+    is_first = not any(step.before.can_run(group, step.app) for group in groups[:groups.index(node)])
+    return is_first and groups.index(node) < groups.index(one[0]) and needs_run(step, states)
+
+
+# ---- Time, and boots
+
+
+def is_failover(step: Step, states: States) -> bool:
+    """Time passes where each node waits for all others and none waits now; one application is lost by both, whose list has no tuple, and it
+    starts by the first rules, and nothing else."""
+    if step.word != "tick" or lacks_lists(step.cluster) or "waiting" in step.before.mode.values():
+        return False
+    lost = [set(state.lost) for state in states]
+    if len(lost[0]) != 1 or lost[0] != lost[1] or len(step.answer) != 2 or not step.answer[1].startswith("started "):
+        return False
+    return not any(isinstance(group, tuple) for app in lost[0] for group in step.cluster.entries[app].groups)
+
+
 def is_waiting_boot(step: Step, _: States) -> bool:
     """A node boots where each node waits for all others, and no wait is over behind it; the others that aren't alive have never booted."""
     if step.word != "boot" or lacks_lists(step.cluster) or step.answer != ["ok"]:
@@ -112,7 +154,8 @@ def is_waiting_boot(step: Step, _: States) -> bool:
 # Each kind, and how many of it have to be among the random rehearsals.
 KINDS: dict[str, tuple[Callable[[Step, States], bool], int]] = {
     "stop": (is_stop, 40), "exit": (is_exit, 10), "forbid": (is_forbid, 60), "start": (is_start, 20), "takeover": (is_takeover, 100),
-    "permission": (is_permission, 150), "boot that waits": (is_waiting_boot, 3_000)}
+    "permission": (is_permission, 150), "permit that starts": (is_grant, 3), "permit that calls back": (is_call_back, 1),
+    "failover": (is_failover, 15), "boot that waits": (is_waiting_boot, 3_000)}
 
 
 def kind_of(step: Step, live: list[str], state: State) -> Optional[str]:

@@ -31,6 +31,7 @@ from live_conditions import (Condition, State, Step, careful, has_other_platform
                              lacks_lists, may_be_lost_together, needs_a_distributed_one, state_of)
 from live_rules import split_answers
 from random_live import CAREFUL, KINDS, Rehearsal, rehearsal
+from random_spread import loss, loss_of_several, moving, returning
 from support import COMMANDS, TOP, fault_of, run
 
 sys.path.append(os.path.join(TOP, "companions"))
@@ -42,6 +43,10 @@ from rehearse_tools.program import Program  # noqa: E402
 # Seeds at which nobody looked while the conditions were looked for.
 FIRST, COUNT, AT_ONCE = 40_000, 2_000, 100
 CAREFUL_COUNT, CAREFUL_AT_ONCE = 80, 10
+# Seeds of rehearsals in which distributed applications are lost, permitted, forbidden and taken over (random_spread.py), and of which kinds
+# there have to be so many among them.
+SPREAD_FIRST, SPREAD_COUNT, SPREAD_AT_ONCE = 45_000, 400, 50
+LEAST_SPREAD = {"failover": 200, "permit that starts": 50, "permit that calls back": 20, "takeover": 100, "permission": 100}
 # At least such shares of the sane rehearsals, and of their commands, have to be within the conditions.
 LEAST_REHEARSALS, LEAST_COMMANDS = 0.1, 0.2
 PARTING = os.path.join(TOP, "tests", "parting")
@@ -372,6 +377,22 @@ def small_ones(program: str) -> Iterator[Test]:
         yield f"tests/parting/{name}.txt", None if is_so else f"it breaks {sorted(broken)}, and parts at {one.first} of {len(one.commands)}"
 
 
+def spread_ones(program: str, seeds: range) -> Iterator[Test]:
+    """Rehearsals in which distributed applications are lost and move: what is of an agreed kind is answered alike."""
+    found = [judged(program, make(seed)) for seed in seeds for make in (loss, loss_of_several, moving, returning)]
+    for one in found:
+        other = next((kind for kind, is_alike in one.proved if not is_alike), None)
+        yield f"both rules alike, agreed kinds, cluster {one.name}", None if other is None else f"{other} is answered otherwise"
+    return found
+
+
+def of_spread(parts: list[list[Judged]]) -> Iterator[Test]:
+    """There are enough of these kinds."""
+    proved = Counter(kind for part in parts for one in part for kind, _ in one.proved)
+    for kind, least in LEAST_SPREAD.items():
+        yield f"both rules alike: enough of {kind} in such clusters", None if proved[kind] >= least else f"{proved[kind]}"
+
+
 def careful_ones(program: str, seeds: range) -> Iterator[Test]:
     """Rehearsals that keep to the conditions of live_conditions.py are answered alike, up to a step of which lint warns."""
     for seed in seeds:
@@ -385,5 +406,6 @@ def ranges(first: int, count: int, at_once: int) -> list[range]:
 
 
 TESTS: tuple[Group | Callable[[str], Iterable[Test]], ...] = (
-    Group(random_ones, ranges(FIRST, COUNT, AT_ONCE), end=of_random), Group(careful_ones, ranges(0, CAREFUL_COUNT, CAREFUL_AT_ONCE)),
-    small_ones)
+    Group(random_ones, ranges(FIRST, COUNT, AT_ONCE), end=of_random),
+    Group(spread_ones, ranges(SPREAD_FIRST, SPREAD_COUNT, SPREAD_AT_ONCE), end=of_spread),
+    Group(careful_ones, ranges(0, CAREFUL_COUNT, CAREFUL_AT_ONCE)), small_ones)

@@ -27,7 +27,8 @@ from lint_measure import is_in_page, shown
 from live_conditions import lacks_lists
 from live_told import Lines, Told, by_model, by_program, now_of
 from orderly import At, Kind, hangs
-from random_live import KINDS, TYPES, Cluster, Rehearsal, Spread, complete_lists, rehearsal, sane, wild
+from random_live import KINDS, Rehearsal, rehearsal, sane, wild
+from random_spread import beginning, gathering, loss, loss_of_several, moving, returning
 from support import TOP
 
 from rehearse_tools.inputs import is_command, split_input, words_of
@@ -46,6 +47,9 @@ LOST_FIRST, LOST_COUNT, LOST_AT_ONCE = 75_000, 200, 50
 BEGIN_FIRST, BEGIN_COUNT, BEGIN_AT_ONCE = 76_000, 200, 50
 MOVE_FIRST, MOVE_COUNT, MOVE_AT_ONCE = 77_000, 200, 50
 RETURN_FIRST, RETURN_COUNT, RETURN_AT_ONCE = 78_000, 200, 50
+# Of some in which all nodes boot several applications, and of some that lose several with a node.
+GATHER_FIRST, GATHER_COUNT, GATHER_AT_ONCE = 79_000, 200, 50
+LOST_TOGETHER_FIRST, LOST_TOGETHER_COUNT, LOST_TOGETHER_AT_ONCE = 79_500, 200, 50
 # For each condition a rehearsal that breaks it alone, and in which orders part: a script of tests/live, or a random one of a seed; and in
 # how many orders that shows.
 NEEDED: tuple[tuple[str, Union[str, int], int], ...] = (
@@ -181,72 +185,6 @@ def kept(_program: str, seeds: range) -> Iterator[Test]:
     return found
 
 
-def lone(chance: random.Random, least: int, most: int) -> tuple[list[str], list[str]]:
-    """So many nodes at least and at most, and those of them that are in the list of their one application, in its order."""
-    nodes = [f"n{number}@lab" for number in range(1, chance.randint(least, most) + 1)]
-    return nodes, chance.sample(nodes, chance.randint(least, len(nodes)))
-
-
-def lone_cluster(chance: random.Random, nodes: list[str], listed: list[str], timeout: int) -> Cluster:
-    """A cluster of these nodes, which wait for one another, with one distributed application, in a list without tuples."""
-    cluster = Cluster(2, nodes, ["d1"], {"d1": Spread(timeout, [[node] for node in listed])}, nodes, 5_000)
-    complete_lists(chance, cluster)
-    return cluster
-
-
-def booted(seed: int, cluster: Cluster, nodes: list[str], lines: Iterable[str]) -> Rehearsal:
-    """All nodes boot, and then these commands come."""
-    commands = "".join(f"{line}\n" for line in (*(f"boot {node}" for node in nodes), *lines))
-    return Rehearsal(seed, KINDS[0], f"{cluster.text}===\n{commands}")
-
-
-def loss(seed: int) -> Rehearsal:
-    """A random cluster with one distributed application: all nodes boot, that where it runs is lost, and its failover time passes."""
-    chance = random.Random(seed)
-    nodes, listed = lone(chance, 3, 6)
-    timeout = chance.choice([1_000, 4_000, 8_000])
-    cluster = lone_cluster(chance, nodes, listed, timeout)
-    cluster.boot = {node: [("d1", chance.choice(TYPES))] for node in listed}
-    cluster.permissions = {node: {"d1": False} for node in listed[1:] if chance.random() < 0.2}
-    return booted(seed, cluster, nodes, [f"crash {listed[0]}", f"tick {timeout}"])
-
-
-def beginning(seed: int) -> Rehearsal:
-    """A random cluster with one distributed application, which some nodes may not run: all nodes boot, and it is started at two nodes of the
-    list, or twice at one."""
-    chance = random.Random(seed)
-    nodes, listed = lone(chance, 2, 6)
-    forbidden = chance.choice([0.0, 0.4, 1.0])
-    cluster = lone_cluster(chance, nodes, listed, 5_000)
-    cluster.permissions = {node: {"d1": False} for node in listed if chance.random() < forbidden}
-    return booted(seed, cluster, nodes, [f"start {chance.choice(listed)} d1 {chance.choice(TYPES)}" for _ in range(2)])
-
-
-def moving(seed: int) -> Rehearsal:
-    """A random cluster with one distributed application: all nodes boot, and it is permitted, forbidden and taken over at nodes of the list."""
-    chance = random.Random(seed)
-    nodes, listed = lone(chance, 2, 5)
-    cluster = lone_cluster(chance, nodes, listed, 5_000)
-    cluster.boot = {node: [("d1", chance.choice(TYPES))] for node in listed}
-    cluster.permissions = {node: {"d1": False} for node in listed if chance.random() < 0.5}
-    calls = ("permit {} d1 true", "permit {} d1 false", f"takeover {{}} d1 {chance.choice(TYPES)}")
-    return booted(seed, cluster, nodes, [chance.choice(calls).format(chance.choice(listed)) for _ in range(6)])
-
-
-def returning(seed: int) -> Rehearsal:
-    """A random cluster with two distributed applications and one that isn't: all nodes boot, and twice a node crashes and boots again, once
-    what is lost may have failed over."""
-    chance = random.Random(seed)
-    nodes, listed = lone(chance, 2, 5)
-    cluster = lone_cluster(chance, nodes, listed, 1_000)
-    cluster.apps, cluster.spreads["d2"] = ["d1", "d2", "l1"], Spread(2_000, [[node] for node in chance.sample(nodes, len(nodes))])
-    cluster.boot = {node: [("l1", chance.choice(TYPES)), *((app, chance.choice(TYPES)) for app in ("d1", "d2") if node in
-                                                           cluster.spreads[app].nodes)] for node in nodes}
-    cluster.permissions = {node: {"d1": False} for node in listed[1:] if chance.random() < 0.3}
-    gone = [chance.choice(nodes) for _ in range(2)]
-    return booted(seed, cluster, nodes, [line for node in gone for line in (f"crash {node}", "tick 3000", f"boot {node}")])
-
-
 def proved_alike(where: str, rehearsals: Iterable[Rehearsal]) -> Iterator[Test]:
     """At none of their commands of a kind of which it is proved two orders part."""
     found = [in_orders(one) for one in rehearsals]
@@ -273,6 +211,16 @@ def moves(_program: str, seeds: range) -> Iterator[Test]:
 def returns(_program: str, seeds: range) -> Iterator[Test]:
     """Clusters in which a node comes back."""
     return (yield from proved_alike("return", map(returning, seeds)))
+
+
+def gatherings(_program: str, seeds: range) -> Iterator[Test]:
+    """Clusters all of whose nodes boot."""
+    return (yield from proved_alike("boot of all nodes", map(gathering, seeds)))
+
+
+def losses_of_several(_program: str, seeds: range) -> Iterator[Test]:
+    """Clusters that lose several applications with a node."""
+    return (yield from proved_alike("loss of several", map(loss_of_several, seeds)))
 
 
 def enough_of(found: list[Measured], kinds: tuple[Kind, ...]) -> Optional[str]:
@@ -315,6 +263,20 @@ def of_returns(parts: list[list[Measured]]) -> Iterator[Test]:
     found = [one for part in parts for one in part]
     yield "orders of messages: enough returns", enough_of(found, orderly.RETURNED)
     yield "orders of messages at returns: the page", is_in_page(rows_of(found, orderly.RETURNED))
+
+
+def of_gatherings(parts: list[list[Measured]]) -> Iterator[Test]:
+    """There are enough boots of the last node, and the page has their count."""
+    found = [one for part in parts for one in part]
+    yield "orders of messages: enough boots of the last node", enough_of(found, orderly.GATHERED)
+    yield "orders of messages at boots of the last node: the page", is_in_page(rows_of(found, orderly.GATHERED))
+
+
+def of_losses_of_several(parts: list[list[Measured]]) -> Iterator[Test]:
+    """There are enough ticks through several failovers, and the page has their count."""
+    found = [one for part in parts for one in part]
+    yield "orders of messages: enough ticks through failovers", enough_of(found, orderly.LOST_TOGETHER)
+    yield "orders of messages at ticks through failovers: the page", is_in_page(rows_of(found, orderly.LOST_TOGETHER))
 
 
 def by_words(program: str, seeds: range) -> Iterator[Test]:
@@ -371,4 +333,6 @@ TESTS: tuple[Group | Callable[[str], Iterable[Test]], ...] = (
     Group(by_words, KEPT), Group(losses, ranges(LOST_FIRST, LOST_COUNT, LOST_AT_ONCE), end=of_losses),
     Group(beginnings, ranges(BEGIN_FIRST, BEGIN_COUNT, BEGIN_AT_ONCE), end=of_beginnings),
     Group(moves, ranges(MOVE_FIRST, MOVE_COUNT, MOVE_AT_ONCE), end=of_moves),
-    Group(returns, ranges(RETURN_FIRST, RETURN_COUNT, RETURN_AT_ONCE), end=of_returns), needed)
+    Group(returns, ranges(RETURN_FIRST, RETURN_COUNT, RETURN_AT_ONCE), end=of_returns),
+    Group(gatherings, ranges(GATHER_FIRST, GATHER_COUNT, GATHER_AT_ONCE), end=of_gatherings),
+    Group(losses_of_several, ranges(LOST_TOGETHER_FIRST, LOST_TOGETHER_COUNT, LOST_TOGETHER_AT_ONCE), end=of_losses_of_several), needed)

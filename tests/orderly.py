@@ -107,6 +107,28 @@ def is_return(at: At) -> bool:
     return is_such and at.told.answer[0] == "ok" and all(at.is_up(node) for node in at.cluster.nodes if node != at.node)
 
 
+def boots_alike(at: At) -> bool:
+    """All nodes boot the same distributed applications, in the same order, and each application behind what it needs; what isn't
+    distributed is permitted where it is booted. No list has a tuple."""
+    lists = {node.name: [app for app, _ in node.boot] for node in at.cluster.nodes.values()}
+    spread = [[app for app in apps if app in at.cluster.entries] for apps in lists.values()]
+    early = any(need in at.cluster.apps and need not in apps[:place]
+                for apps in lists.values() for place, app in enumerate(apps) for need in at.cluster.apps[app].needs)
+    forbidden = any(app in apps and app not in at.cluster.entries and (f"{node}  forbidden {app}", 1) in at.before[1]
+                    for node, apps in lists.items() for app in at.cluster.apps)
+    return all(one == spread[0] for one in spread) and not early and not forbidden and not has_tuple(at.cluster)
+
+
+def is_last_boot(at: At) -> bool:
+    """The last node boots where nothing hangs, each node waits for all others, all others wait for this one, and all boot the same
+    distributed applications in one order; no start fails."""
+    if not is_call(at, "boot") or lacks_lists(at.cluster) or not boots_alike(at):
+        return False
+    others = [node for node in at.cluster.nodes if node != at.node]
+    waiting = all(any(line.startswith(f"node {node} waiting ") for line, _ in at.before[1]) for node in others)
+    return waiting and at.told.answer[0] == "ok" and not any(line.startswith("failed ") for line, _ in at.told.answer[1])
+
+
 # ---- Ends
 
 
@@ -269,6 +291,18 @@ def is_joint_failover(at: At) -> bool:
     return not any(isinstance(group, tuple) for group in at.cluster.entries[due[0][1]].groups)
 
 
+def is_tick_through_losses(at: At) -> bool:
+    """Time passes where nothing hangs, and timers of losses are due at several moments, those of one application at each; their lists have
+    no tuples."""
+    due = due_at(at)
+    if any(kind != "failover" for kind, *_ in due):
+        return False
+    moments = {timer[-1] for timer in due}
+    lost = {(timer[-1], timer[1]) for timer in due}
+    has_tuples = any(isinstance(group, tuple) for _, app in lost for group in at.cluster.entries[app].groups)
+    return len(moments) == len(lost) > 1 and not has_tuples
+
+
 # ---- The kinds
 
 
@@ -307,8 +341,15 @@ MOVED = (
     Kind("A permit of a distributed application where it waits, while it runs at the first node of its list that may", is_permit_elsewhere, 30),
     Kind("A forbid of a distributed application where it runs, while no other node that is up may run it", is_forbid_last, 30),
     Kind("A forbid of a distributed application where it runs, while one other node of its list that is up may run it", is_forbid_moving, 20))
-# and in those in which a node crashes and comes back.
+# in those in which a node crashes and comes back,
 RETURNED = (
     Kind("A boot of a node that comes back to all others, which are up, where no list has a tuple and no application a timeout of 0",
          is_return, 200),)
-ALL = (*ANYWHERE, *LOST, *BEGUN, *MOVED, *RETURNED)
+# in those in which all nodes boot, of several applications,
+GATHERED = (
+    Kind("A boot of the last node, where each node waits for all others and all boot the same distributed applications in one order",
+         is_last_boot, 150),)
+# and in those in which several applications are lost with a node.
+LOST_TOGETHER = (
+    Kind("A tick through failovers at several moments, one application at each, whose lists have no tuple", is_tick_through_losses, 100),)
+ALL = (*ANYWHERE, *LOST, *BEGUN, *MOVED, *RETURNED, *GATHERED, *LOST_TOGETHER)
