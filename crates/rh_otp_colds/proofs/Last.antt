@@ -63,6 +63,12 @@ can_still s t cluster files there can = record {
         (backwards (own_in (files i) m) x))
         (places_of (own_in (files i) m) x)
 
+-- and so are the nodes that run
+pub still_at : (s t : SystemView) (cluster : t.cluster ≡ s.cluster) (files : t.files ≡ s.files) (there : (m : Node) → is_there t m ≡ is_there s m)
+    (can : CanStartTogether s) → (can_still s t cluster files there can).at ≡ can.at
+unfolding can_still
+still_at s t cluster files there can = refl
+
 -- ---- what is slow are connections
 
 record Links (what : List Slow) : Type 0 where
@@ -193,6 +199,13 @@ module _ (s : SystemView) (n : Node) (reached : IsReached s) (f : IsColdStart s)
     can = can_still s (uncounted (booted n s)) (ap (λ (x : SystemView). x.cluster) so) (ap (λ (x : SystemView). x.files) so)
         (λ m. ap (λ (x : SystemView). is_there x m) so ∙ there_b m) can;
   }
+
+  -- the same nodes run
+  pub same_at : all_begun.can.at ≡ can.at
+  unfolding all_begun
+  same_at =
+      still_at s (uncounted (booted n s)) (ap (λ (x : SystemView). x.cluster) so) (ap (λ (x : SystemView). x.files) so)
+      (λ m. ap (λ (x : SystemView). is_there x m) so ∙ there_b m) can
 
 pub last_ends : LastBootsEndAsScriptsDo
 last_ends s n reached f can left =

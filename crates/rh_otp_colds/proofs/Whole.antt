@@ -84,7 +84,7 @@ pub record AllBegun (a : SystemView) : Type 0 where
   pub can : CanStartTogether a
 
 -- moves one after the other, and then more of them
-then_more : (s t u : SystemView) → Reaches s t → Reaches t u → Reaches s u
+pub then_more : (s t u : SystemView) → Reaches s t → Reaches t u → Reaches s u
 then_more _ _ u (here s) more = more
 then_more _ t u (behind_one s v _ first rest) more = behind_one s v u first (then_more v t u rest more)
 
@@ -270,9 +270,14 @@ module _ (a : SystemView) (f : AllBegun a) where
     locks = h.locks;
   }
 
+  -- they are left to the nodes to which the files leave them
+  pub left_to : together.at ≡ f.can.at
+  unfolding together
+  left_to = refl
+
   -- ---- the connections are there
 
-  listed_alive : (m : Node) → is_alive_at t m ≡ true → 1 ≤ times m a.alive
+  pub listed_alive : (m : Node) → is_alive_at t m ≡ true → 1 ≤ times m a.alive
   listed_alive m alive = by (times m a.alive) refl
     where
       by : (j : ℕ) → times m a.alive ≡ j → 1 ≤ times m a.alive

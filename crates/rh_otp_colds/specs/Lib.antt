@@ -1,2 +1,3 @@
 pub mod Colds
 pub mod Wholes
+pub mod Starts

@@ -1,6 +1,7 @@
 //! The laws of cold starts. Each function does nothing: its contract is the law.
 
 ghost use Rattle.rh_otp_colds.specs.Colds.{ColdStartsGoOn};
+ghost use Rattle.rh_otp_colds.specs.Starts.{LastBootsComeToRest, LastBootsComeUp};
 ghost use Rattle.rh_otp_colds.specs.Wholes.{ColdBootsEndAlike, ColdStartsEndAlike};
 ghost use Rattle.rh_otp_colds.specs.Wholes.{LastBootsEndAsScriptsDo};
 
@@ -35,4 +36,19 @@ pub fn cold_boots_end_alike()
 /// as above.
 pub fn cold_starts_end_alike()
     ensures { ColdStartsEndAlike }
+{}
+
+/// And wherever the last boot of such a cold start comes to rest, each node is up, in the life that it had once the boot had begun, and its
+/// controller has each entry of its boot list as started, and knows where it runs: at the node itself, or at the first of the list that may
+/// run it. Of each node an observer was told that it comes up, that it starts what starts there, in the order of its boot list, and that it
+/// has booted, and nothing else. Nothing can move then, no dist_ac stands in the middle of something, nobody has a lock, and all else is as
+/// it was there. The conditions on the files are as above.
+pub fn last_boots_come_up()
+    ensures { LastBootsComeUp }
+{}
+
+/// And the last boot of such a cold start does come to rest: by some order behind so many moves, and by no order are there more, so every
+/// order comes to rest. The conditions on the files are as above.
+pub fn last_boots_come_to_rest()
+    ensures { LastBootsComeToRest }
 {}

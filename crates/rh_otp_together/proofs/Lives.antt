@@ -33,7 +33,7 @@ module _ {b : SystemView} (g : BootTogether b) {left : ℕ} {u : SystemView} (f 
   pub node_so : (k : Node) → 1 ≤ count_of k b.alive → node_at u k ≡ live b g.at k (f.far k)
   node_so k alive = ap (λ (o : Option Cell). unwrap_or (option_and_then live_in o) never_begun) (f.here k alive)
 
-  node_else : (k : Node) → count_of k b.alive ≡ 0 → node_at u k ≡ node_at b k
+  pub node_else : (k : Node) → count_of k b.alive ≡ 0 → node_at u k ≡ node_at b k
   node_else k none = ap (λ (o : Option Cell). unwrap_or (option_and_then live_in o) never_begun) (f.others k none)
 
   pub lives_so : (k : Node) → (node_at u k).life ≡ (node_at b k).life

@@ -22,8 +22,11 @@ pub fn boot_scripts_end_alike_together()
 
 /// And so all orders lead to one state, by the same number of moves: however the moves are chosen, so many of them can be made, and behind
 /// them a system stands that is alike to it, and in which nothing moves. In that state each script has come to the end of its list, and
-/// the node's controller knows of each entry where it runs: at the node itself, or at the one to which the dist_acs leave it. Each dist_ac
-/// takes whatever comes, with an empty mailbox, and knows of no start that its node hasn't asked for; and nobody has a lock.
+/// the node's controller has each entry as started, and knows where it runs: at the node itself, or at the one to which the dist_acs leave
+/// it. Each dist_ac takes whatever comes, with an empty mailbox, and knows of no start that its node hasn't asked for; nobody waits at it
+/// for anything, if nobody waited there for a permission before; and nobody has a lock. Of each node an observer was told the starts of
+/// what runs there, in the order of its boot list, and behind them that it has booted, if it is one of the cluster; of nodes that aren't
+/// alive, and of none, nothing was told. All else is as it was, and of each node its phase and its life, too.
 pub fn boot_scripts_come_to_one_state()
     ensures { BootScriptsComeToOneState }
 {}
