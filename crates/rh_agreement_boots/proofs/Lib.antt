@@ -1,10 +1,10 @@
-mod Ready
+pub mod Ready
 mod Hearing
-mod Waiting
-mod BootAlike
+pub mod Waiting
+pub mod BootAlike
 mod Begun
-mod Counting
-mod Alone
+pub mod Counting
+pub mod Alone
 pub mod Calls
 mod Rows
 mod RowsWaiting

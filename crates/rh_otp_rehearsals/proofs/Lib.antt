@@ -2,7 +2,7 @@ mod Twins
 mod Asking
 mod Moving
 mod Resembling
-mod Waiting
+pub mod Waiting
 mod Cells
 mod Refusing
 mod Acting

@@ -58,7 +58,7 @@ same_up n xs ys same = same_any node_told (Some n) (waiting.is_up_event n) (is_u
 
 -- ---- lines of events
 
-line_kept : (es : List Event) (calls : List Call) (before : ℕ) (e : Event) (l : Line) → telling.line_of es calls before e ≡ Some l
+pub line_kept : (es : List Event) (calls : List Call) (before : ℕ) (e : Event) (l : Line) → telling.line_of es calls before e ≡ Some l
     → node_of_line l ≡ node_told e
 line_kept es calls before (event.Up n) l is = sym (ap node_of_line (same_Some (line.Up n) l is))
 line_kept es calls before (event.Ended n) l is = sym (ap node_of_line (same_Some (line.Ended n) l is))
@@ -103,7 +103,7 @@ kept_by f p q x xs (Some z) false is is_p same rest =
     ∙ ap (λ (b : Bool). cond b (z ∷ filter q (filter_map f xs)) (filter q (filter_map f xs))) (same z refl) ∙ rest
     ∙ sym (ap (λ (b : Bool). filter_map f (cond b (x ∷ filter p xs) (filter p xs))) is_p)
 
-lines_of_owner : (o : Option Node) (f : Event → Option Line) → ((e : Event) (l : Line) → f e ≡ Some l → node_of_line l ≡ node_told e)
+pub lines_of_owner : (o : Option Node) (f : Event → Option Line) → ((e : Event) (l : Line) → f e ≡ Some l → node_of_line l ≡ node_told e)
     → (es : List Event) → of_owner node_of_line o (filter_map f es) ≡ filter_map f (of_owner node_told o es)
 lines_of_owner o f kept [] = refl
 lines_of_owner o f kept (e ∷ es) =
@@ -132,12 +132,12 @@ same_lines es fs calls before same o =
 -- ---- who is told to wait
 
 -- of this node, or of none, both have the same
-record SameFor (o : Option Node) (w u : WaitingView) : Type 0 where
-  told : of_owner node_of_row o w.told ≡ of_owner node_of_row o u.told
-  asked : of_owner node_of_row o w.asked ≡ of_owner node_of_row o u.asked
-  lines : of_owner node_of_line o w.lines ≡ of_owner node_of_line o u.lines
+pub record SameFor (o : Option Node) (w u : WaitingView) : Type 0 where
+  pub told : of_owner node_of_row o w.told ≡ of_owner node_of_row o u.told
+  pub asked : of_owner node_of_row o w.asked ≡ of_owner node_of_row o u.asked
+  pub lines : of_owner node_of_line o w.lines ≡ of_owner node_of_line o u.lines
 
-as_it_was : (o : Option Node) (w : WaitingView) → SameFor o w w
+pub as_it_was : (o : Option Node) (w : WaitingView) → SameFor o w w
 as_it_was o w = record { told = refl; asked = refl; lines = refl }
 
 back : {o : Option Node} {w u : WaitingView} → SameFor o w u → SameFor o u w
@@ -323,13 +323,13 @@ events_by : (o : Option Node) (s t : SystemView) (es fs : List Event) (e : Event
 events_by o s t es fs e xs w u true own see g rest = rest _ _ (event_own o s t es fs e w u see own g)
 events_by o s t es fs e xs w u false other see g rest = rest _ u (on (event_other o s es e w other) g)
 
-events_of : (o : Option Node) (s t : SystemView) (es fs xs : List Event) (w u : WaitingView) → SeeTheSame s t es fs → SameFor o w u
+pub events_of : (o : Option Node) (s t : SystemView) (es fs xs : List Event) (w u : WaitingView) → SeeTheSame s t es fs → SameFor o w u
     → SameFor o (waiting.events_asked s es xs w) (waiting.events_asked t fs (of_owner node_told o xs) u)
 events_of o s t es fs [] w u see g = g
 events_of o s t es fs (e ∷ xs) w u see g =
     events_by o s t es fs e xs w u (is_owner o (node_told e)) refl see g (λ x y h. events_of o s t es fs xs x y see h)
 
-itself : (t : SystemView) (fs : List Event) → SeeTheSame t t fs fs
+pub itself : (t : SystemView) (fs : List Event) → SeeTheSame t t fs fs
 itself t fs = record { cluster = refl; nodes = λ n. refl; events = λ o. refl }
 
 events_same : (o : Option Node) (s t : SystemView) (es fs : List Event) (w u : WaitingView) → SeeTheSame s t es fs → SameFor o w u
