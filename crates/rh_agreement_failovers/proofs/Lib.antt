@@ -1,20 +1,20 @@
-mod Placed
-mod Turns
-mod Starting
-mod Hearing
-mod Costs
-mod Following
+pub mod Placed
+pub mod Turns
+pub mod Starting
+pub mod Hearing
+pub mod Costs
+pub mod Following
 mod Here
 mod Coming
-mod Settling
+pub mod Settling
 mod Beginning
-mod Ticked
-mod Alike
+pub mod Ticked
+pub mod Alike
 pub mod FailAlike
-mod RowsTrio
+pub mod RowsTrio
 mod RowsStates
 mod RowsBoots
 mod RowsUp
-mod RowsLost
-mod RowsStandby
-mod Rows
+pub mod RowsLost
+pub mod RowsStandby
+pub mod Rows

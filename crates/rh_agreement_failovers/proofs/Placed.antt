@@ -109,7 +109,7 @@ module _ (s : StateView) (ms : ℕ) (n from : Node) (a : App) (valid : IsValid s
   effect_so =
       ap (λ (st : Standing). course_of (wanted_if_lost (with_time (without_due s (Failover a)) can.due) a st) [] []) can.lost
 
-  sound : IsSound wanted
+  pub sound : IsSound wanted
   sound =
       let soon : can.due ≤ s.time + ms = first_timer.1 in
       subst (λ (p : Course). IsSound p.state) effect_so
@@ -193,7 +193,7 @@ module _ (s : StateView) (ms : ℕ) (n from : Node) (a : App) (valid : IsValid s
   starts_first : IsEnabled wanted [] placement
   starts_first = (app, wanted_now, is_best)
 
-  picks : (pick : Pick) → picked pick (nexts course) ≡ Some placement
+  pub picks : (pick : Pick) → picked pick (nexts course) ≡ Some placement
   picks pick =
       fuel.by_option (picked pick (nexts course))
       (λ none. absurd ((still_if_none_enabled wanted []).0 (none_picked pick (nexts course) none) placement starts_first))
@@ -298,7 +298,7 @@ module _ (s : StateView) (ms : ℕ) (n from : Node) (a : App) (valid : IsValid s
       (λ one now. running_not_wanted n other (Running n) refl now)
   none_moves (Takeover b k m) is = false≢true (all_called moved_then [] b k m is.2.passes).1
 
-  no_next : (pick : Pick) → picked pick (nexts last) ≡ None
+  pub no_next : (pick : Pick) → picked pick (nexts last) ≡ None
   no_next pick = ap (picked pick) ((still_if_none_enabled moved_then []).1 none_moves) ∙ sym (none_of_none pick)
 
   settles_so : (pick : Pick) → settled pick course ≡ last

@@ -78,7 +78,7 @@ needs_none : (k : ℕ) → list_any (is_dep web) (deps_of three (app_numbered k)
 needs_none zero = refl
 needs_none (suc k) = refl
 
-can_then : CanFailOver 5000 state_four b a web
+pub can_then : CanFailOver 5000 state_four b a web
 unfolding is_operational deps_run configured nodes_of apps_of
 can_then = record {
   due = 5000;
@@ -170,7 +170,7 @@ knows_it m other among =
     (knows_third m.0 other
     (subst (λ (rows : List (Node × ℕ)). is_among (numbered m.0) (map (λ (row : Node × ℕ). row.0) rows) ≡ true) losses_are among)))
 
-can_live : CanFailOverLive 5000 live_four b a web
+pub can_live : CanFailOverLive 5000 live_four b a web
 can_live = record {
   failover = fails;
   in_time = omega (arith, due_is, clock_is);
@@ -192,7 +192,7 @@ can_live = record {
 
 -- ---- so the law is of it
 
-room : HasRoom sim_four live_four
+pub room : HasRoom sim_four live_four
 room = record {
   steps = subst (λ (s : SimView). s.cursor < trail_limit) (sym sim_is) (omega arith);
   calls = omega (arith, calls_is);

@@ -44,7 +44,7 @@ module _ (lives : Node → ℕ) (n : Node) (a : App) (most : ℕ) (base : System
 
   -- ---- moves
 
-  come : (s t : SystemView) → FollowsHere s → Delivers s t → ComesOn lives n a most base can s t
+  pub come : (s t : SystemView) → FollowsHere s → Delivers s t → ComesOn lives n a most base can s t
   come s t f one =
       let d : Delivered (Behaves n a) (IsNews lives n a) lives s t = only_messages s t f.still.peace one in
       subst (ComesOn lives n a most base can s) (sym d.is)

@@ -38,7 +38,7 @@ use Rattle.rh_agreement_failovers.proofs.Settling.{all_free}
 use Rattle.rh_agreement_failovers.proofs.Turns.{kind_of}
 
 -- no timer is due, or one is
-due_in_time : (end : ℕ) (due step : ℕ) (o : Option (ℕ × ℕ)) → o ≡ Some (due, step) → due ≤ end → until_if end o ≡ Some due
+pub due_in_time : (end : ℕ) (due step : ℕ) (o : Option (ℕ × ℕ)) → o ≡ Some (due, step) → due ≤ end → until_if end o ≡ Some due
 due_in_time end due step o is within =
     let soon : nat_le due end ≡ true = grind (arith, nat_tests, within) in
     ap (until_if end) is ∙ ap (λ (b : Bool). cond b (Some due) None) soon

@@ -85,7 +85,7 @@ at_another time rows answers l s _ (gone x dead) = gone x dead
 at_another time rows answers l s _ (up x kernel is) = up x kernel is
 at_another time rows answers l s _ (not_lost x a loss dist restart has) = not_lost x a loss dist restart has
 
-all_mute : (time : ℕ) (rows : List Timer) (answers : List Answered) (s : SystemView) (xs : List Timer) → All (IsLeftOver s) xs
+pub all_mute : (time : ℕ) (rows : List Timer) (answers : List Answered) (s : SystemView) (xs : List Timer) → All (IsLeftOver s) xs
     → All (IsMute (at_time time rows answers s)) (map message_of xs)
 all_mute time rows answers s [] all = All-nil (IsMute (at_time time rows answers s))
 all_mute time rows answers s (x ∷ xs) all =

@@ -1,5 +1,5 @@
-mod Timely
-mod Muting
+pub mod Timely
+pub mod Muting
 pub mod Firing
 mod Following
 pub mod Ticking

@@ -29,17 +29,17 @@ taken_fewer e (m ∷ messages) left (inr later) =
 -- ---- one of them arrives
 
 -- all that is possible is that one of them arrives
-record OneLess (s : SystemView) (l : List Envelope) (t : SystemView) : Type 0 where
-  left : List Envelope
-  mute : All (IsMute s) left
-  is : t ≡ without s left
-  fewer : length l ≡ suc (length left)
+pub record OneLess (s : SystemView) (l : List Envelope) (t : SystemView) : Type 0 where
+  pub left : List Envelope
+  pub mute : All (IsMute s) left
+  pub is : t ≡ without s left
+  pub fewer : length l ≡ suc (length left)
 
 -- where none is left nothing is possible
 nothing_else : (s : SystemView) (l : List Envelope) (next : Move) → IsSettled (without s []) → l ≡ [] → IsPossible (without s l) next → ⊥
 nothing_else s l next at empty possible = at next (subst (λ (x : List Envelope). IsPossible (without s x) next) empty possible)
 
-one_less : (s : SystemView) (l : List Envelope) (t : SystemView) → IsSettled (without s []) → All (IsMute s) l → Delivers (without s l) t
+pub one_less : (s : SystemView) (l : List Envelope) (t : SystemView) → IsSettled (without s []) → All (IsMute s) l → Delivers (without s l) t
     → OneLess s l t
 one_less s l t at mute (move.Deliver place, possible, is) =
     let come : ArrivesInOrder place (without s l) (made (move.Deliver place) (without s l)) = keeps_order (without s l) place possible in
