@@ -21,6 +21,7 @@ use Rattle.rh_agreement_grants.proofs.Calls as grants
 use Rattle.rh_agreement_permits.proofs.Calls as permits
 use Rattle.rh_agreement_spread.proofs.Calls as spread
 use Rattle.rh_agreement_takeovers.proofs.Calls as takeovers
+use Rattle.rh_agreement_ticks.proofs.Ticking.{passes_on}
 use Rattle.rh_agreement_rehearsals.specs.Rehearsals.{IsBoot, IsAgreed, IsAgreedCall, AgreedCallsAreAnsweredAlike, AgreedRehearsalsAreAnsweredAlike}
 
 boots_on : (e : Event) (sim : SimView) (l : LiveSimView) → GoTogether sim l → HasRoom sim l → AreAlwaysAtRest sim l → IsBoot e sim l
@@ -34,9 +35,10 @@ step_on e sim l together room rest (inl boots) = boots_on e sim l together room 
 step_on e sim l together room rest (inr (inl takes)) = takeovers.step_on e sim l together room rest takes
 step_on e sim l together room rest (inr (inr (inl allows))) = permits.step_on e sim l together room rest allows
 step_on e sim l together room rest (inr (inr (inr (inl granted)))) = grants.step_on e sim l together room rest granted
-step_on e sim l together room rest (inr (inr (inr (inr fails)))) = fails_on e sim l together room rest fails
+step_on e sim l together room rest (inr (inr (inr (inr (inl fails))))) = fails_on e sim l together room rest fails
+step_on e sim l together room rest (inr (inr (inr (inr (inr passes))))) = passes_on e sim l together room rest passes
 
-call_on : (c : Call) (sim : SimView) (l : LiveSimView) → GoTogether sim l → AreAlwaysAtRest sim l → IsAgreedCall c sim l → GoesOn c sim l
+pub call_on : (c : Call) (sim : SimView) (l : LiveSimView) → GoTogether sim l → AreAlwaysAtRest sim l → IsAgreedCall c sim l → GoesOn c sim l
 call_on (call.Step e) sim l together rest (inl is) = step_on e sim l together is.0 rest is.1
 call_on (call.Step e) sim l together rest (inr is) = spread.call_on (call.Step e) sim l together rest is
 call_on c sim l together rest is = spread.call_on c sim l together rest is

@@ -1,1 +1,3 @@
 pub mod Rehearsals
+pub mod ColdStarts
+pub mod WholeStarts

@@ -25,15 +25,17 @@ use Rattle.rh_agreement_grants.specs.Calls.{IsOfGrants}
 use Rattle.rh_agreement_permits.specs.Calls.{IsOfPermits}
 use Rattle.rh_agreement_spread.specs.Calls.{IsOfAnyOrCalm}
 use Rattle.rh_agreement_takeovers.specs.Calls.{IsTakeover}
+use Rattle.rh_agreement_ticks.specs.Passing.{IsATickThroughMoments}
 
 -- a boot of the first node, where it waits, or of a node that waits on
 abbrev pub IsBoot : Event → SimView → LiveSimView → Type 0
 IsBoot (event.Boot n) sim live = BeginsToWait n sim live ⊎ BeginsAndWaitsOn n sim live
 IsBoot e sim live = ⊥
 
--- such a boot, a takeover, a permission, or a failover
+-- such a boot, a takeover, a permission, a failover, or a tick through several moments
 abbrev pub IsAgreed : Event → SimView → LiveSimView → Type 0
 IsAgreed e sim live = IsBoot e sim live ⊎ IsTakeover e sim live ⊎ IsOfPermits e sim live ⊎ IsOfGrants e sim live ⊎ IsAFailover e sim live
+    ⊎ IsATickThroughMoments e sim live
 
 -- or one of the calls of `rh_agreement_spread`: a stop, an exit or a start, a forbid of an application that isn't distributed, a crash, a
 -- tick, or a step back or forth

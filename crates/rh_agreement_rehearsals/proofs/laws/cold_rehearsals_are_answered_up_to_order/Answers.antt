@@ -1,0 +1,5 @@
+use Rattle.rh_agreement_rehearsals.proofs.ColdStarts.{cold_rehearsals_alike}
+use Rattle.rh_agreement_rehearsals.proofs.laws.cold_rehearsals_are_answered_up_to_order.Goals as goal
+
+pub returns : goal.returns
+returns c = cold_rehearsals_alike
