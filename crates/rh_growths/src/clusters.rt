@@ -110,7 +110,12 @@ fn sim_on(alloc: Global, text: &str) -> Option<Sim> {
 /// A simulation on it, behind these events. Its lists have no room to spare, as those of each copy.
 pub fn sim_behind(alloc: Global, text: &str, events: &[Event]) -> Option<Sim> {
     let mut sim = sim_on(alloc, text)?;
-    make_all(alloc, &mut sim, events)?;
+    copy_behind(alloc, &mut sim, events)
+}
+
+// Its copy behind these events.
+fn copy_behind(alloc: Global, sim: &mut Sim, events: &[Event]) -> Option<Sim> {
+    make_all(alloc, sim, events)?;
     sim.copy(alloc).ok()
 }
 

@@ -8,6 +8,7 @@ use crate::first::TWO_TIMERS;
 use crate::kept::Kept;
 use crate::performing::{first_of, make};
 use rh_base::OutOfMemory;
+use rh_cluster::Cluster;
 use rh_marks::{Answer, begin, end};
 use rh_state::State;
 use rh_step::{Event, FiredTimer, Pick, firings_of, refusal_of};
@@ -28,9 +29,13 @@ pub fn answer(alloc: Global, name: &str) -> Option<Answer> {
     if name == "Sim::firings" {
         of_a_sim(alloc, &mut sim)
     } else {
-        let fired = firings_in_tick(alloc, &mut sim)?.ok()?;
-        call_reader(alloc, fired.as_slice().get(1)?, name)
+        of_a_timer(alloc, &mut sim, name)
     }
+}
+
+fn of_a_timer(alloc: Global, sim: &mut Sim, name: &str) -> Option<Answer> {
+    let fired = firings_in_tick(alloc, sim)?.ok()?;
+    call_reader(alloc, fired.as_slice().get(1)?, name)
 }
 
 // Is the call of this name, made of a simulation, here?
@@ -49,6 +54,10 @@ fn firings_in_tick(alloc: Global, sim: &mut Sim) -> Option<Result<Vec<FiredTimer
 // Both timers fire, at the same time. The application is started at the other node, and is taken over by the one that comes up.
 fn of_a_sim(alloc: Global, sim: &mut Sim) -> Option<Answer> {
     let kept = Kept::of(alloc, sim)?;
+    of_a_sim_beside(alloc, sim, &kept)
+}
+
+fn of_a_sim_beside(alloc: Global, sim: &mut Sim, kept: &Kept) -> Option<Answer> {
     begin(alloc);
     let fired = firings_in_tick(alloc, sim);
     end(alloc);
@@ -79,11 +88,21 @@ fn is_told(fired: &[FiredTimer], wanted: &[(u64, usize)]) -> bool {
 // The first node has booted, and waits for the others.
 fn of_a_state(alloc: Global) -> Option<Answer> {
     let cluster = cluster_of(alloc, PAIR)?;
-    let mut state = first_of(alloc, &cluster)?;
+    of_a_first_state(alloc, &cluster)
+}
+
+fn of_a_first_state(alloc: Global, cluster: &Cluster) -> Option<Answer> {
+    let mut state = first_of(alloc, cluster)?;
+    of_a_boot(alloc, &mut state)
+}
+
+fn of_a_boot(alloc: Global, state: &mut State) -> Option<Answer>
+    requires { IsValid (read state.old) }
+{
     let mut edits = Vec::new(alloc);
     let mut told = Vec::new(alloc);
-    make(alloc, &mut state, &BOOT_1, &mut edits, &mut told)?;
-    of_a_wait(alloc, &mut state)
+    make(alloc, state, &BOOT_1, &mut edits, &mut told)?;
+    of_a_wait(alloc, state)
 }
 
 // It comes up, and starts the application.
@@ -91,6 +110,12 @@ fn of_a_wait(alloc: Global, state: &mut State) -> Option<Answer>
     requires { IsValid (read state.old) }
 {
     let kept = state.copy(alloc).ok()?;
+    of_a_wait_beside(alloc, state, &kept)
+}
+
+fn of_a_wait_beside(alloc: Global, state: &mut State, kept: &State) -> Option<Answer>
+    requires { IsValid (read state.old) }
+{
     if refusal_of(state, &Event::Tick { ms: TICK }).is_some() {
         return None;
     }
@@ -98,7 +123,7 @@ fn of_a_wait(alloc: Global, state: &mut State) -> Option<Answer>
     let fired = firings_of(alloc, state, TICK, Pick::First);
     end(alloc);
     Some(match fired {
-        _ if !state.same_words(&kept) => Answer::Changed("words"),
+        _ if !state.same_words(kept) => Answer::Changed("words"),
         Ok(fired) => Answer::of_call(is_told(fired.as_slice(), [(1_000, 2)].as_slice())),
         Err(_) => Answer::Refused,
     })

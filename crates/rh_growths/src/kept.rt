@@ -35,14 +35,8 @@ impl Kept {
             Some("report")
         } else if !sim.state().same_words(self.here.state()) {
             Some("words")
-        } else if sim.trail() != self.here.trail() {
-            Some("trail")
-        } else if sim.cursor() != self.here.cursor() {
-            Some("cursor")
-        } else if !same_records(sim, &self.here) {
-            Some("records")
         } else {
-            None
+            trail_changed(sim, &self.here)
         }
     }
 
@@ -65,12 +59,36 @@ impl Kept {
 
 // Do undo and redo of the two lead to the same words?
 fn lead_alike(one: &mut Sim, other: &mut Sim) -> bool {
+    let begins = begin_alike(one, other);
+    let ends = end_alike(one, other);
+    begins && ends
+}
+
+// Have they the same words where all steps are taken back?
+fn begin_alike(one: &mut Sim, other: &mut Sim) -> bool {
     let _ = one.undo_all();
     let _ = other.undo_all();
-    let begins = one.state().same_words(other.state());
+    one.state().same_words(other.state())
+}
+
+// Have they the same words where all steps are made again?
+fn end_alike(one: &mut Sim, other: &mut Sim) -> bool {
     let _ = one.redo_all();
     let _ = other.redo_all();
-    begins && one.state().same_words(other.state())
+    one.state().same_words(other.state())
+}
+
+// What of the trail and the records of one isn't as the other has it.
+fn trail_changed(one: &Sim, other: &Sim) -> Option<&'static str> {
+    if one.trail() != other.trail() {
+        Some("trail")
+    } else if one.cursor() != other.cursor() {
+        Some("cursor")
+    } else if !same_records(one, other) {
+        Some("records")
+    } else {
+        None
+    }
 }
 
 // Are the records of the two as long?

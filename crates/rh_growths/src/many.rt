@@ -56,28 +56,46 @@ fn read(alloc: Global, sim: &Sim) -> Option<Answer> {
 fn call_serve(alloc: Global, text: &str) -> Option<Answer> {
     let cluster = cluster_of(alloc, text)?;
     let (mut room, mut passes) = open_room(alloc, cluster, Pick::First, 1).ok()?;
-    call_all(alloc, &mut room, passes.get_mut(0)?)?;
+    call_all_and_fork(alloc, &mut room, passes.get_mut(0)?)
+}
+
+fn call_all_and_fork(alloc: Global, room: &mut Room, pass: &mut Pass) -> Option<Answer> {
+    call_all(alloc, room, pass)?;
     let fork = room.fork(alloc).ok()?;
     Some(Answer::of_call(fork.trail().len() == COUNT + 1))
 }
 
 fn call_all(alloc: Global, room: &mut Room, pass: &mut Pass) -> Option<()> {
-    let _ = room.serve(alloc, pass, Call::Step(BOOT_1)).ok()?;
+    serve(alloc, room, pass, Call::Step(BOOT_1))?;
     for _ in 0..COUNT {
-        let _ = room.serve(alloc, pass, Call::Step(TICK)).ok()?;
-        let _ = room.serve(alloc, pass, Call::Look).ok()?;
+        serve(alloc, room, pass, Call::Step(TICK))?;
+        serve(alloc, room, pass, Call::Look)?;
     }
+    Some(())
+}
+
+fn serve(alloc: Global, room: &mut Room, pass: &mut Pass, call: Call) -> Option<()> {
+    let _ = room.serve(alloc, pass, call).ok()?;
     Some(())
 }
 
 fn call_try_plan(alloc: Global, text: &str) -> Option<Answer> {
     let mut sim = long_sim(alloc, text)?;
+    call_try_plan_on(alloc, &mut sim)
+}
+
+fn call_try_plan_on(alloc: Global, sim: &mut Sim) -> Option<Answer> {
+    let plan = plan_of_ticks(alloc)?;
+    call_try_plan_of(alloc, sim, &plan)
+}
+
+fn plan_of_ticks(alloc: Global) -> Option<Plan> {
     let events = vec![in alloc; TICK; COUNT].ok()?;
-    call_try_plan_on(alloc, &mut sim, &plan_of(alloc, events.as_slice())?)
+    plan_of(alloc, events.as_slice())
 }
 
 // A plan of many events is tried behind a long trail.
-fn call_try_plan_on(alloc: Global, sim: &mut Sim, plan: &Plan) -> Option<Answer> {
+fn call_try_plan_of(alloc: Global, sim: &mut Sim, plan: &Plan) -> Option<Answer> {
     let standing = sim.trail().len();
     if sim.cursor() != standing || plan.events.len() > Sim::TRAIL_LIMIT - standing {
         return None;

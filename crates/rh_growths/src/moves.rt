@@ -39,14 +39,19 @@ fn way_of(name: &str) -> Option<(Way, usize)> {
 /// What comes of the call of this name, if it is here.
 pub fn answer(alloc: Global, name: &str) -> Option<Answer> {
     let mut sim = sim_before_last(alloc, RANKS, EVENTS.as_slice())?;
-    let Some((way, standing)) = way_of(name) else {
-        return Some(call_reader(alloc, &sim, reader_of(name)?));
-    };
-    let wanted = sim_behind(alloc, RANKS, EVENTS.as_slice().get(..standing)?)?;
-    Some(call_move(alloc, &mut sim, way, &wanted))
+    match way_of(name) {
+        Some((way, standing)) => call_move(alloc, &mut sim, way, standing),
+        None => call_reader_of(alloc, &sim, name),
+    }
 }
 
-fn call_move(alloc: Global, sim: &mut Sim, way: Way, wanted: &Sim) -> Answer {
+// A call that has to lead to the words behind so many events.
+fn call_move(alloc: Global, sim: &mut Sim, way: Way, standing: usize) -> Option<Answer> {
+    let wanted = sim_behind(alloc, RANKS, EVENTS.as_slice().get(..standing)?)?;
+    Some(call_move_beside(alloc, sim, way, &wanted))
+}
+
+fn call_move_beside(alloc: Global, sim: &mut Sim, way: Way, wanted: &Sim) -> Answer {
     begin(alloc);
     let is_made = go(sim, way);
     end(alloc);
@@ -112,6 +117,10 @@ fn reader_of(name: &str) -> Option<Reader> {
     } else {
         None
     }
+}
+
+fn call_reader_of(alloc: Global, sim: &Sim, name: &str) -> Option<Answer> {
+    Some(call_reader(alloc, sim, reader_of(name)?))
 }
 
 fn call_reader(alloc: Global, sim: &Sim, reader: Reader) -> Answer {

@@ -23,7 +23,11 @@ pub fn first_of(alloc: Global, cluster: &Cluster) -> Option<State>
 /// The third node has booted, so both lists have something in them. Then the first boots.
 pub fn call_perform(alloc: Global) -> Option<Answer> {
     let cluster = cluster_of(alloc, RANKS)?;
-    let mut state = first_of(alloc, &cluster)?;
+    call_perform_of(alloc, &cluster)
+}
+
+fn call_perform_of(alloc: Global, cluster: &Cluster) -> Option<Answer> {
+    let mut state = first_of(alloc, cluster)?;
     call_perform_on(alloc, &mut state)
 }
 

@@ -163,7 +163,12 @@ fn what_changed(
     if !are_receipts(open.passes.as_slice(), count) {
         return Some(Some("receipts"));
     }
-    let mut fork = open.room.fork(alloc).ok()?;
+    fork_changed(alloc, &open.room, kept)
+}
+
+// What of a fork of the room isn't as it was.
+fn fork_changed(alloc: Global, room: &Room, kept: &Kept) -> Option<Option<&'static str>> {
+    let mut fork = room.fork(alloc).ok()?;
     Some(kept.changed(alloc, &mut fork))
 }
 
@@ -251,7 +256,11 @@ fn call_fork_beside(alloc: Global, room: &Room, kept: &Kept) -> Answer {
 
 fn call_close(alloc: Global) -> Option<Answer> {
     let cluster = cluster_of(alloc, CAVE)?;
-    call_close_on(alloc, open_behind(alloc, CALLS.as_slice())?, &cluster)
+    call_close_of(alloc, &cluster)
+}
+
+fn call_close_of(alloc: Global, cluster: &Cluster) -> Option<Answer> {
+    call_close_on(alloc, open_behind(alloc, CALLS.as_slice())?, cluster)
 }
 
 fn call_close_on(alloc: Global, open: Open, cluster: &Cluster) -> Option<Answer> {

@@ -62,11 +62,15 @@ fn plans_of(alloc: Global, all: &[&[Event]]) -> Option<Vec<Plan>> {
 /// A plan is tried in which a node ends.
 pub fn call_try_plan(alloc: Global) -> Option<Answer> {
     let mut sim = sim_behind(alloc, CAVE, BOOTS.as_slice())?;
-    let plan = plan_of(alloc, DOWN.as_slice())?;
-    call_try_plan_on(alloc, &mut sim, &plan)
+    call_try_plan_on(alloc, &mut sim)
 }
 
-fn call_try_plan_on(alloc: Global, sim: &mut Sim, plan: &Plan) -> Option<Answer> {
+fn call_try_plan_on(alloc: Global, sim: &mut Sim) -> Option<Answer> {
+    let plan = plan_of(alloc, DOWN.as_slice())?;
+    call_try_plan_of(alloc, sim, &plan)
+}
+
+fn call_try_plan_of(alloc: Global, sim: &mut Sim, plan: &Plan) -> Option<Answer> {
     let kept = Kept::of(alloc, sim)?;
     call_try_plan_beside(alloc, sim, &kept, plan)
 }
@@ -145,9 +149,18 @@ fn call_sweep_of_many<R: Threads + Wait + Sync>(
     count: usize,
 ) -> Option<Answer> {
     let base = sim_behind(alloc, CAVE, BOOTS.as_slice())?;
+    call_sweep_of_many_on(rt, alloc, &base, count)
+}
+
+fn call_sweep_of_many_on<R: Threads + Wait + Sync>(
+    rt: &R,
+    alloc: Global,
+    base: &Sim,
+    count: usize,
+) -> Option<Answer> {
     let plans = equal_plans(alloc, count)?;
     begin(alloc);
-    let outcomes = sweep(rt, alloc, &base, plans.as_slice(), 1, &FreeGate);
+    let outcomes = sweep(rt, alloc, base, plans.as_slice(), 1, &FreeGate);
     end(alloc);
     Some(Answer::of_call(outcomes.ok()?.len() == count))
 }
@@ -163,22 +176,29 @@ fn equal_plans(alloc: Global, count: usize) -> Option<Vec<Plan>> {
 // Five plans are swept by two workers.
 fn call_sweep<R: Threads + Wait + Sync>(rt: &R, alloc: Global) -> Option<Answer> {
     let mut base = sim_behind(alloc, CAVE, BOOTS.as_slice())?;
-    let plans = plans(alloc)?;
-    call_sweep_on(rt, alloc, &mut base, plans.as_slice())
+    call_sweep_on(rt, alloc, &mut base)
 }
 
 fn call_sweep_on<R: Threads + Wait + Sync>(
     rt: &R,
     alloc: Global,
     base: &mut Sim,
-    plans: &[Plan],
 ) -> Option<Answer> {
     let kept = Kept::of(alloc, base)?;
-    let answer = call_sweep_of_plans(rt, alloc, base, plans);
+    let answer = call_sweep_of_five(rt, alloc, base)?;
     Some(match kept.changed(alloc, base) {
         None => answer,
         Some(what) => Answer::Changed(what),
     })
+}
+
+fn call_sweep_of_five<R: Threads + Wait + Sync>(
+    rt: &R,
+    alloc: Global,
+    base: &Sim,
+) -> Option<Answer> {
+    let plans = plans(alloc)?;
+    Some(call_sweep_of_plans(rt, alloc, base, plans.as_slice()))
 }
 
 fn call_sweep_of_plans<R: Threads + Wait + Sync>(

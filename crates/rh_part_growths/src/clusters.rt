@@ -1,6 +1,6 @@
 //! The readers of a cluster, and copies.
 
-use crate::made::{HERE, LAB, SERVICE, SIDE, cluster};
+use crate::made::{HERE, LAB, SERVICE, SIDE, cluster, is_lab};
 use rh_cluster::{Cluster, Dep, Node, SyncWait, read_cluster};
 use rh_marks::{Answer, begin, end};
 use std::alloc::Global;
@@ -11,11 +11,16 @@ pub fn answer(alloc: Global, name: &str) -> Option<Answer> {
         return Some(call_read_cluster(alloc));
     }
     let cluster = cluster(alloc)?;
+    of_cluster(alloc, &cluster, name)
+}
+
+// The same of a call of that cluster.
+fn of_cluster(alloc: Global, cluster: &Cluster, name: &str) -> Option<Answer> {
     if name == "Cluster::copy" {
-        return Some(call_copy(alloc, &cluster));
+        return Some(call_copy(alloc, cluster));
     }
     begin(alloc);
-    let told = is_read(&cluster, name);
+    let told = is_read(cluster, name);
     end(alloc);
     Some(Answer::of_call(told?))
 }
@@ -24,10 +29,26 @@ pub fn answer(alloc: Global, name: &str) -> Option<Answer> {
 fn is_read(cluster: &Cluster, name: &str) -> Option<bool> {
     if let Some(is_right) = is_of_whole(cluster, name) {
         Some(is_right)
-    } else if let Some(is_right) = is_of_node(cluster, name) {
+    } else if let Some(is_right) = is_of_search(cluster, name) {
         Some(is_right)
     } else {
-        is_of_app(cluster, name)
+        is_of_part(cluster, name)
+    }
+}
+
+// The same of one of a node or of an application.
+fn is_of_part(cluster: &Cluster, name: &str) -> Option<bool> {
+    if !is_lab(cluster) {
+        return None;
+    }
+    if let Some(is_right) = is_of_node(cluster, name) {
+        Some(is_right)
+    } else if let Some(is_right) = is_of_wait(cluster, name) {
+        Some(is_right)
+    } else if let Some(is_right) = is_of_app(cluster, name) {
+        Some(is_right)
+    } else {
+        is_of_place(cluster, name)
     }
 }
 
@@ -36,7 +57,7 @@ fn call_read_cluster(alloc: Global) -> Answer {
     let read = read_cluster(alloc, LAB.as_bytes());
     end(alloc);
     match read {
-        Ok(cluster) => Answer::of_call(cluster.node_count() == 3 && cluster.app_count() == 2),
+        Ok(cluster) => Answer::of_call(is_lab(&cluster)),
         Err(fault) => {
             if fault.is_memory() {
                 Answer::Refused
@@ -52,9 +73,13 @@ fn call_copy(alloc: Global, cluster: &Cluster) -> Answer {
     let copy = cluster.copy(alloc);
     end(alloc);
     match copy {
-        Ok(copy) => Answer::of_call(copy.same(cluster)),
+        Ok(copy) => Answer::of_call(are_same(&copy, cluster)),
         Err(_) => Answer::Refused,
     }
+}
+
+fn are_same(copy: &Cluster, cluster: &Cluster) -> bool {
+    copy.same(cluster)
 }
 
 // Whether a reader of this name answers as it has to, if it is one of the whole cluster.
@@ -67,17 +92,29 @@ fn is_of_whole(cluster: &Cluster, name: &str) -> Option<bool> {
         Some(cluster.app_count() == 2)
     } else if name == "Cluster::platform_count" {
         Some(cluster.platform_count() == 3)
-    } else if name == "Cluster::node_of" {
+    } else {
+        None
+    }
+}
+
+// The same of one that looks for a name, a difference or local applications.
+fn is_of_search(cluster: &Cluster, name: &str) -> Option<bool> {
+    if name == "Cluster::node_of" {
         Some(cluster.node_of("n3@lab") == Some(Node(2)))
     } else if name == "Cluster::app_of" {
         Some(cluster.app_of("side") == Some(SIDE))
     } else if name == "Cluster::same" {
         Some(cluster.same(cluster))
     } else if name == "Cluster::locals" {
-        Some(cluster.locals().has(SIDE) && !cluster.locals().has(SERVICE))
+        Some(are_local(cluster))
     } else {
         None
     }
+}
+
+// Is the one application local, and the other not?
+fn are_local(cluster: &Cluster) -> bool {
+    cluster.locals().has(SIDE) && !cluster.locals().has(SERVICE)
 }
 
 // The same of one of a node.
@@ -87,14 +124,6 @@ fn is_of_node(cluster: &Cluster, name: &str) -> Option<bool> {
     }
     if name == "Cluster::node_name" {
         Some(cluster.node_name(HERE) == "n1@lab")
-    } else if name == "Cluster::mandatory" {
-        Some(cluster.mandatory(HERE) == [Node(1)].as_slice())
-    } else if name == "Cluster::optional" {
-        Some(cluster.optional(HERE) == [Node(2)].as_slice())
-    } else if name == "Cluster::sync_wait" {
-        Some(cluster.sync_wait(HERE) == SyncWait::After(1_000))
-    } else if name == "Cluster::boot" {
-        Some(cluster.boot(HERE).len() == 2)
     } else if name == "Cluster::permitted" {
         Some(cluster.permitted(HERE, SERVICE))
     } else if name == "Cluster::permissions" {
@@ -106,9 +135,27 @@ fn is_of_node(cluster: &Cluster, name: &str) -> Option<bool> {
     }
 }
 
+// The same of one of what a node waits for and starts.
+fn is_of_wait(cluster: &Cluster, name: &str) -> Option<bool> {
+    if cluster.node_count() != 3 || cluster.platform_count() != 3 {
+        return None;
+    }
+    if name == "Cluster::mandatory" {
+        Some(cluster.mandatory(HERE) == [Node(1)].as_slice())
+    } else if name == "Cluster::optional" {
+        Some(cluster.optional(HERE) == [Node(2)].as_slice())
+    } else if name == "Cluster::sync_wait" {
+        Some(cluster.sync_wait(HERE) == SyncWait::After(1_000))
+    } else if name == "Cluster::boot" {
+        Some(cluster.boot(HERE).len() == 2)
+    } else {
+        None
+    }
+}
+
 // The same of one of an application.
 fn is_of_app(cluster: &Cluster, name: &str) -> Option<bool> {
-    if cluster.node_count() != 3 || cluster.app_count() != 2 {
+    if cluster.app_count() != 2 {
         return None;
     }
     if name == "Cluster::app_name" {
@@ -121,7 +168,17 @@ fn is_of_app(cluster: &Cluster, name: &str) -> Option<bool> {
         Some(cluster.start_arg(SERVICE).is_some())
     } else if name == "Cluster::phases" {
         Some(cluster.phases(SERVICE))
-    } else if name == "Cluster::spread" {
+    } else {
+        None
+    }
+}
+
+// The same of one of where an application can run, and of what it needs and touches.
+fn is_of_place(cluster: &Cluster, name: &str) -> Option<bool> {
+    if cluster.node_count() != 3 || cluster.app_count() != 2 {
+        return None;
+    }
+    if name == "Cluster::spread" {
         Some(cluster.spread(SERVICE).is_some())
     } else if name == "Cluster::group_of" {
         Some(cluster.group_of(SERVICE, Node(1)) == Some(1))
@@ -130,8 +187,15 @@ fn is_of_app(cluster: &Cluster, name: &str) -> Option<bool> {
     } else if name == "Cluster::needs" {
         Some(cluster.needs(SERVICE) == [SIDE].as_slice())
     } else if name == "Cluster::touched_by" {
-        Some(cluster.touched_by(SIDE).has(SERVICE) && !cluster.touched_by(SERVICE).has(SIDE))
+        Some(is_touched(cluster))
     } else {
         None
     }
+}
+
+// Does a move of the side application touch the service, and not the other way round?
+fn is_touched(cluster: &Cluster) -> bool {
+    cluster.app_count() == 2
+        && cluster.touched_by(SIDE).has(SERVICE)
+        && !cluster.touched_by(SERVICE).has(SIDE)
 }

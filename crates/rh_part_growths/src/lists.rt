@@ -11,33 +11,47 @@ use std::alloc::Global;
 /// What comes of the call of this name, if it is here.
 pub fn answer(alloc: Global, name: &str) -> Option<Answer> {
     let mut lists = three_entries(alloc)?;
+    of_lists(alloc, &mut lists, name)
+}
+
+// The same of a call of those lists.
+fn of_lists(alloc: Global, lists: &mut Lists, name: &str) -> Option<Answer> {
     if name == "Lists::new" {
         Some(call_new(alloc))
     } else if name == "Lists::copy" {
-        Some(call_copy(alloc, &lists))
+        Some(call_copy(alloc, lists))
     } else if name == "Lists::push_back" {
-        call_push_back(alloc, &mut lists)
+        call_push_back(alloc, lists)
     } else if name == "Lists::remove" {
-        call_remove(alloc, &mut lists)
+        call_remove(alloc, lists)
     } else if name == "Lists::revert" {
-        call_revert(alloc, &mut lists)
+        call_revert(alloc, lists)
     } else if name == "Lists::reapply" {
-        call_reapply(alloc, &mut lists)
+        call_reapply(alloc, lists)
     } else {
-        begin(alloc);
-        let is_right = is_read(&lists, name);
-        end(alloc);
-        Some(Answer::of_call(is_right?))
+        call_reader(alloc, lists, name)
     }
+}
+
+fn call_reader(alloc: Global, lists: &Lists, name: &str) -> Option<Answer> {
+    begin(alloc);
+    let is_right = is_read(lists, name);
+    end(alloc);
+    Some(Answer::of_call(is_right?))
 }
 
 // Three entries, in order.
 fn three_entries(alloc: Global) -> Option<Lists> {
     let mut lists = Lists::new(alloc, 3, 1).ok()?;
-    for entry in 0..3 {
-        let _ = push(&mut lists, entry)?;
-    }
+    fill(&mut lists)?;
     Some(lists)
+}
+
+fn fill(lists: &mut Lists) -> Option<()> {
+    for entry in 0..3 {
+        let _ = push(lists, entry)?;
+    }
+    Some(())
 }
 
 // Puts an entry that is in no list at the end.
@@ -70,6 +84,25 @@ fn call_copy(alloc: Global, lists: &Lists) -> Answer {
 
 // Whether a reader of this name answers as it has to.
 fn is_read(lists: &Lists, name: &str) -> Option<bool> {
+    if !has_three(lists) {
+        return None;
+    }
+    if let Some(is_right) = is_linked(lists, name) {
+        Some(is_right)
+    } else if let Some(is_right) = is_listed(lists, name) {
+        Some(is_right)
+    } else {
+        is_counted(lists, name)
+    }
+}
+
+// Is there one list, for three entries?
+fn has_three(lists: &Lists) -> bool {
+    lists.list_count() == 1 && lists.entry_count() == 3
+}
+
+// Whether a reader of this name answers as it has to, if it is one of a link.
+fn is_linked(lists: &Lists, name: &str) -> Option<bool> {
     if lists.list_count() != 1 || lists.entry_count() != 3 {
         return None;
     }
@@ -79,14 +112,24 @@ fn is_read(lists: &Lists, name: &str) -> Option<bool> {
         Some(lists.next(0) == Some(1))
     } else if name == "Lists::prev" {
         Some(lists.prev(1) == Some(0))
-    } else if name == "Lists::list_of" {
+    } else {
+        None
+    }
+}
+
+// The same of one of the whole list.
+fn is_listed(lists: &Lists, name: &str) -> Option<bool> {
+    if lists.list_count() != 1 || lists.entry_count() != 3 {
+        return None;
+    }
+    if name == "Lists::list_of" {
         Some(lists.list_of(2) == Some(0))
     } else if name == "Lists::count" {
         Some(lists.count(0) == 3)
     } else if name == "Lists::same_words" {
         Some(lists.same_words(lists))
     } else {
-        is_counted(lists, name)
+        None
     }
 }
 

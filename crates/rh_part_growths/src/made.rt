@@ -39,14 +39,29 @@ pub fn cluster(alloc: Global) -> Option<Cluster> {
     read_cluster(alloc, LAB.as_bytes()).ok()
 }
 
+/// Has a cluster as many nodes and applications as that one?
+pub fn is_lab(cluster: &Cluster) -> bool {
+    cluster.node_count() == 3 && cluster.app_count() == 2
+}
+
 /// A state of it, as no event leaves it: at the first node both applications stand as running, and the service has a timer.
 pub fn state(alloc: Global) -> Option<State> {
     let cluster = cluster(alloc)?;
-    let mut state = first_state(alloc, &cluster).ok()?;
-    push(&mut state, SIDE)?;
-    push(&mut state, SERVICE)?;
-    arm(&mut state)?;
+    state_of(alloc, &cluster)
+}
+
+// That state of this cluster.
+fn state_of(alloc: Global, cluster: &Cluster) -> Option<State> {
+    let mut state = first_state(alloc, cluster).ok()?;
+    fill(&mut state)?;
     Some(state)
+}
+
+// Lets both applications run at the first node, and sets the timer of the service.
+fn fill(state: &mut State) -> Option<()> {
+    push(state, SIDE)?;
+    push(state, SERVICE)?;
+    arm(state)
 }
 
 // Puts an application that isn't started at the first node into its running list.

@@ -9,6 +9,15 @@ use rh_trace::start_kind;
 
 /// Whether a call of this name answers as it has to, if it is here. No node is up.
 pub fn is_told(state: &State, name: &str) -> Option<bool> {
+    if let Some(is_right) = is_placed(state, name) {
+        Some(is_right)
+    } else {
+        is_reasoned(state, name)
+    }
+}
+
+// The same of one that places an application.
+fn is_placed(state: &State, name: &str) -> Option<bool> {
     if state.cluster().node_count() != 3 || state.cluster().app_count() != 2 {
         return None;
     }
@@ -21,7 +30,17 @@ pub fn is_told(state: &State, name: &str) -> Option<bool> {
     } else if name == "best" {
         let set = NodeSet::empty().with(Node(1));
         Some(best(state, SERVICE, set, Pick::Last) == Some(Node(1)))
-    } else if name == "start_kind" {
+    } else {
+        None
+    }
+}
+
+// The same of how an application starts, and of why an event is refused.
+fn is_reasoned(state: &State, name: &str) -> Option<bool> {
+    if state.cluster().app_count() != 2 {
+        return None;
+    }
+    if name == "start_kind" {
         let from = Some(HERE);
         Some(start_kind(state, SERVICE, from, Node(1)) == Kind::Failover(HERE))
     } else if name == "refusal_of" {

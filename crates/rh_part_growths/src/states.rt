@@ -1,6 +1,6 @@
 //! States: the first one of a cluster, copies, and the calls of others.
 
-use crate::made::{SERVICE, state};
+use crate::made::{SERVICE, is_lab, state};
 use crate::{exchanges, places, readers, setters};
 use rh_marks::{Answer, begin, end};
 use rh_state::{State, Timer, first_state};
@@ -9,31 +9,39 @@ use std::alloc::Global;
 /// What comes of the call of this name, if it is here.
 pub fn answer(alloc: Global, name: &str) -> Option<Answer> {
     let mut state = state(alloc)?;
+    of_state(alloc, &mut state, name)
+}
+
+// The same of a call of that state.
+fn of_state(alloc: Global, state: &mut State, name: &str) -> Option<Answer> {
     if name == "first_state" {
-        Some(call_first_state(alloc, &state))
+        Some(call_first_state(alloc, state))
     } else if name == "State::copy" {
-        Some(call_copy(alloc, &state))
+        Some(call_copy(alloc, state))
     } else if name == "State::timers" {
-        Some(call_timers(alloc, &state))
+        Some(call_timers(alloc, state))
     } else if name == "State::back" {
-        exchanges::call_back(alloc, &mut state)
+        exchanges::call_back(alloc, state)
     } else if name == "State::forth" {
-        exchanges::call_forth(alloc, &mut state)
+        exchanges::call_forth(alloc, state)
     } else {
-        begin(alloc);
-        let told = is_right(&mut state, name);
-        end(alloc);
-        Some(Answer::of_call(told?))
+        call_without_growth(alloc, state, name)
     }
+}
+
+fn call_without_growth(alloc: Global, state: &mut State, name: &str) -> Option<Answer> {
+    begin(alloc);
+    let told = is_right(state, name);
+    end(alloc);
+    Some(Answer::of_call(told?))
 }
 
 // Whether a call of this name, which takes no memory, answers as it has to.
 fn is_right(state: &mut State, name: &str) -> Option<bool> {
-    if let Some(is_right) = readers::is_of_lists(state, name) {
-        Some(is_right)
-    } else if let Some(is_right) = readers::is_of_parts(state, name) {
-        Some(is_right)
-    } else if let Some(is_right) = readers::is_of_walks(state, name) {
+    if !is_lab(state.cluster()) {
+        return None;
+    }
+    if let Some(is_right) = readers::is_read(state, name) {
         Some(is_right)
     } else if let Some(is_right) = places::is_told(state, name) {
         Some(is_right)
@@ -49,9 +57,14 @@ fn call_first_state(alloc: Global, state: &State) -> Answer {
     let first = first_state(alloc, state.cluster());
     end(alloc);
     match first {
-        Ok(first) => Answer::of_call(first.now() == 0 && first.earliest().is_none()),
+        Ok(first) => Answer::of_call(is_first(&first)),
         Err(_) => Answer::Refused,
     }
+}
+
+// Is it the beginning, and no timer set?
+fn is_first(state: &State) -> bool {
+    state.now() == 0 && state.earliest().is_none()
 }
 
 fn call_copy(alloc: Global, state: &State) -> Answer {
@@ -59,9 +72,13 @@ fn call_copy(alloc: Global, state: &State) -> Answer {
     let copy = state.copy(alloc);
     end(alloc);
     match copy {
-        Ok(copy) => Answer::of_call(copy.same_words(state)),
+        Ok(copy) => Answer::of_call(are_same(&copy, state)),
         Err(_) => Answer::Refused,
     }
+}
+
+fn are_same(copy: &State, state: &State) -> bool {
+    copy.same_words(state)
 }
 
 fn call_timers(alloc: Global, state: &State) -> Answer {

@@ -11,32 +11,45 @@ use std::alloc::Global;
 /// What comes of the call of this name, if it is here.
 pub fn answer(alloc: Global, name: &str) -> Option<Answer> {
     let mut wheel = two_timers(alloc)?;
+    of_wheel(alloc, &mut wheel, name)
+}
+
+// The same of a call of that wheel.
+fn of_wheel(alloc: Global, wheel: &mut Wheel, name: &str) -> Option<Answer> {
     if name == "Wheel::new" {
         Some(call_new(alloc))
     } else if name == "Wheel::copy" {
-        Some(call_copy(alloc, &wheel))
+        Some(call_copy(alloc, wheel))
     } else if name == "Wheel::arm" {
-        call_arm(alloc, &mut wheel)
+        call_arm(alloc, wheel)
     } else if name == "Wheel::cancel" {
-        call_cancel(alloc, &mut wheel)
+        call_cancel(alloc, wheel)
     } else if name == "Wheel::revert" {
-        call_revert(alloc, &mut wheel)
+        call_revert(alloc, wheel)
     } else if name == "Wheel::reapply" {
-        call_reapply(alloc, &mut wheel)
+        call_reapply(alloc, wheel)
     } else {
-        begin(alloc);
-        let is_right = is_read(&wheel, name);
-        end(alloc);
-        Some(Answer::of_call(is_right?))
+        call_reader(alloc, wheel, name)
     }
+}
+
+fn call_reader(alloc: Global, wheel: &Wheel, name: &str) -> Option<Answer> {
+    begin(alloc);
+    let is_right = is_read(wheel, name);
+    end(alloc);
+    Some(Answer::of_call(is_right?))
 }
 
 // Two timers that are due together.
 fn two_timers(alloc: Global) -> Option<Wheel> {
     let mut wheel = Wheel::new(alloc, 3).ok()?;
-    arm(&mut wheel, 2)?;
-    arm(&mut wheel, 0)?;
+    arm_two(&mut wheel)?;
     Some(wheel)
+}
+
+fn arm_two(wheel: &mut Wheel) -> Option<()> {
+    arm(wheel, 2)?;
+    arm(wheel, 0)
 }
 
 // Arms a timer.

@@ -1,5 +1,7 @@
 //! Tests of calls that the program doesn't make. Each test owns what it needs in as few lines as can be, and hands it by reference to
-//! functions that ask and compare. Those of rooms and of rh_app stand in crates of their own, so that none waits for the others.
+//! functions that ask and compare. What costs much to prove is a function that owns two clusters, states or simulations at once: here one
+//! makes the first, and hands it to another, which makes the second. Those of rooms and of rh_app stand in crates of their own, so that
+//! none waits for the others.
 #![tactic(auto)]
 
 #[cfg(test)]
@@ -14,6 +16,8 @@ mod places;
 mod profiles;
 #[cfg(test)]
 mod records;
+#[cfg(test)]
+mod shown;
 #[cfg(test)]
 mod sims;
 #[cfg(test)]

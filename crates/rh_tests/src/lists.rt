@@ -5,6 +5,7 @@ ghost use Rattle.rh_arena.specs.Exchange.{exchange};
 ghost use Rattle.rh_arena.specs.WellFormed.{IsWellFormed};
 
 use rh_arena::{LinkEdit, Lists};
+use std::alloc::Global;
 use std::process::Abort;
 use std::test::Fail;
 
@@ -49,18 +50,32 @@ fn out_and_in_and_back(rt: &impl Abort, lists: &mut Lists) {
     lists.revert(&mut removed);
 }
 
+// Puts three entries in the list.
+fn push_three(rt: &impl Abort, lists: &mut Lists) {
+    for entry in 0..3 {
+        let _ = push(rt, lists, entry);
+    }
+}
+
+// Are the words those of a copy, before that and behind it?
+fn keeps_its_words(rt: &impl Abort, alloc: Global, lists: &mut Lists) {
+    let before = lists.copy(alloc).ok().expect(rt, "memory");
+    assert!(rt; lists.same_words(&before));
+    out_and_in_and_back(rt, lists);
+    assert!(rt; lists.same_words(&before));
+}
+
+fn has_all_three(rt: &impl Abort, lists: &Lists) {
+    has_links(rt, lists, 1, Some(0), Some(2));
+    assert!(rt; lists.list_count() == 1);
+    assert!(rt; lists.first(0) == Some(0) && lists.count(0) == 3);
+}
+
 #[test]
 fn a_change_in_the_middle_is_taken_back(rt: HostRuntime) -> Result<(), Fail> {
     let mut lists = Lists::new(rt.alloc(), 3, 1)?;
-    for entry in 0..3 {
-        let _ = push(&rt, &mut lists, entry);
-    }
-    let before = lists.copy(rt.alloc())?;
-    assert!(rt; lists.same_words(&before));
-    out_and_in_and_back(&rt, &mut lists);
-    assert!(rt; lists.same_words(&before));
-    has_links(&rt, &lists, 1, Some(0), Some(2));
-    assert!(rt; lists.list_count() == 1);
-    assert!(rt; lists.first(0) == Some(0) && lists.count(0) == 3);
+    push_three(&rt, &mut lists);
+    keeps_its_words(&rt, rt.alloc(), &mut lists);
+    has_all_three(&rt, &lists);
     Ok(())
 }

@@ -1,12 +1,15 @@
 //! What is kept of each step: how many edits undo and redo answer, none where a step sets what is so already, and the words of
 //! the first state.
 
-use crate::support::{copy_of_state, make_all, sim_on};
+use crate::support::{
+    copy_of_state, edits_of_third, has_words, make_all, redo, sim_on, undo, undo_all,
+};
 use rh_cluster::{App, Node, Restart};
 use rh_samples::ONE_NODE;
 use rh_state::State;
 use rh_step::Event;
 use rh_trail::Sim;
+use std::alloc::Global;
 use std::process::Abort;
 
 // The node boots, and an application stops and starts again.
@@ -35,34 +38,42 @@ static PERMITTED: [Event; 2] = [
 
 // Undo and redo answer the number of edits of the last step.
 fn goes_back_and_forth(rt: &impl Abort, sim: &mut Sim) {
-    assert!(rt; sim.trail().len() == 3);
-    let count = sim.record(2).len();
+    let count = edits_of_third(rt, sim);
     assert!(rt; count > 0);
-    assert!(rt; sim.undo().ok() == Some(count));
-    assert!(rt; sim.redo().ok() == Some(count));
+    assert!(rt; undo(sim) == Some(count));
+    assert!(rt; redo(sim) == Some(count));
+}
+
+fn has_second_record_without_edits(rt: &impl Abort, sim: &Sim) {
+    assert!(rt; sim.trail().len() == 2);
+    assert!(rt; sim.record(1).is_empty());
 }
 
 // The last step has a record without edits, which is taken back and made again as any other.
 fn keeps_no_edit(rt: &impl Abort, sim: &mut Sim) {
-    assert!(rt; sim.trail().len() == 2);
-    assert!(rt; sim.record(1).is_empty());
-    assert!(rt; sim.undo().ok() == Some(0));
-    assert!(rt; sim.redo().ok() == Some(0));
+    has_second_record_without_edits(rt, sim);
+    assert!(rt; undo(sim) == Some(0));
+    assert!(rt; redo(sim) == Some(0));
 }
 
 fn goes_to_the_start(rt: &impl Abort, sim: &mut Sim, first: &State) {
-    assert!(rt; !sim.state().same_words(first));
-    assert!(rt; sim.undo_all() == 3);
-    assert!(rt; sim.state().same_words(first));
+    assert!(rt; !has_words(sim, first));
+    assert!(rt; undo_all(sim) == 3);
+    assert!(rt; has_words(sim, first));
+}
+
+// The three steps, some of the ways back and forth, and then all of them back to the first state.
+fn steps_and_goes_back(rt: &impl Abort, alloc: Global, sim: &mut Sim) {
+    let first = copy_of_state(rt, alloc, sim);
+    make_all(rt, alloc, sim, STEPS.as_slice());
+    goes_back_and_forth(rt, sim);
+    goes_to_the_start(rt, sim, &first);
 }
 
 #[test]
 fn undo_and_redo_answer_the_number_of_edits(rt: HostRuntime) {
     let mut sim = sim_on(&rt, rt.alloc(), ONE_NODE);
-    let first = copy_of_state(&rt, rt.alloc(), &sim);
-    make_all(&rt, rt.alloc(), &mut sim, STEPS.as_slice());
-    goes_back_and_forth(&rt, &mut sim);
-    goes_to_the_start(&rt, &mut sim, &first);
+    steps_and_goes_back(&rt, rt.alloc(), &mut sim);
 }
 
 #[test]

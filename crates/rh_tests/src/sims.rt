@@ -1,7 +1,7 @@
 //! Simulations by themselves: what one was opened with, copies, and replies that are shared.
 
-use crate::support::{make_all, sim_on};
-use rh_calls::{Call, Reply, report};
+use crate::support::{make_all, sim_on, state_of};
+use rh_calls::{Call, Replies, Reply, report};
 use rh_cluster::Node;
 use rh_samples::ONE_NODE;
 use rh_step::{Event, Pick, Refusal};
@@ -12,15 +12,27 @@ use std::process::Abort;
 // The node boots.
 static BOOT: [Event; 1] = [Event::Boot { node: Node(0) }];
 
-fn is_new(rt: &impl Abort, alloc: Global, sim: &Sim) {
+fn is_opened(rt: &impl Abort, sim: &Sim) {
     assert!(rt; sim.pick() == Pick::First && sim.cluster().node_count() == 1);
     assert!(rt; sim.trail().is_empty() && sim.cursor() == 0);
-    let text = report(alloc, sim.state()).ok().expect(rt, "memory");
+}
+
+fn is_reported(rt: &impl Abort, alloc: Global, sim: &Sim) {
+    let text = report(alloc, state_of(sim)).ok().expect(rt, "memory");
     assert!(rt; text.as_slice() == b"now 0\nnode one@lab down 0\n".as_slice());
 }
 
+fn is_new(rt: &impl Abort, alloc: Global, sim: &Sim) {
+    is_opened(rt, sim);
+    is_reported(rt, alloc, sim);
+}
+
+fn copy_of_sim(rt: &impl Abort, alloc: Global, sim: &Sim) -> Sim {
+    sim.copy(alloc).ok().expect(rt, "memory")
+}
+
 fn is_new_in_copy(rt: &impl Abort, alloc: Global, sim: &Sim) {
-    let copy = sim.copy(alloc).ok().expect(rt, "memory");
+    let copy = copy_of_sim(rt, alloc, sim);
     is_new(rt, alloc, &copy);
 }
 
@@ -39,27 +51,43 @@ fn tells(reply: &Reply, count: usize) -> bool {
     }
 }
 
-fn boots(rt: &impl Abort, alloc: Global, sim: &mut Sim) {
+// What is answered where the node boots.
+fn replies_to_boot(rt: &impl Abort, alloc: Global, sim: &mut Sim) -> Replies {
     let [boot] = BOOT;
-    let replies = sim
-        .answer(alloc, Call::Step(boot))
+    sim.answer(alloc, Call::Step(boot))
         .ok()
-        .expect(rt, "memory");
-    let (logged, kept, told) = replies.into_three();
-    let shared = told.share().ok().expect(rt, "few who share it");
-    assert!(rt; logged.same(&kept) && kept.same(&told) && told.same(&shared));
-    assert!(rt; tells(&logged, 4) && tells(&shared, 4) && sim.cursor() == 1);
+        .expect(rt, "memory")
 }
 
-fn is_refused(rt: &impl Abort, alloc: Global, sim: &mut Sim) {
-    let [boot] = BOOT;
-    let replies = sim
-        .answer(alloc, Call::Step(boot))
-        .ok()
-        .expect(rt, "memory");
+fn share_of(rt: &impl Abort, reply: &Reply) -> Reply {
+    reply.share().ok().expect(rt, "few who share it")
+}
+
+fn are_same(one: &Reply, other: &Reply) -> bool {
+    one.same(other)
+}
+
+// The three replies and one that is shared are equal, and tell of the boot.
+fn tell_of_boot(rt: &impl Abort, replies: Replies) {
+    let (logged, kept, told) = replies.into_three();
+    let shared = share_of(rt, &told);
+    assert!(rt; are_same(&logged, &kept) && are_same(&kept, &told) && are_same(&told, &shared));
+    assert!(rt; tells(&logged, 4) && tells(&shared, 4));
+}
+
+fn boots(rt: &impl Abort, alloc: Global, sim: &mut Sim) {
+    tell_of_boot(rt, replies_to_boot(rt, alloc, sim));
+    assert!(rt; sim.cursor() == 1);
+}
+
+fn tell_of_refusal(rt: &impl Abort, replies: Replies) {
     let reply = replies.into_one();
     assert!(rt; reply.same(&Reply::Refused(Refusal::AlreadyAlive)) && !tells(&reply, 4));
     assert!(rt; Refusal::OutOfMemory.is_memory() && !Refusal::AlreadyAlive.is_memory());
+}
+
+fn is_refused(rt: &impl Abort, alloc: Global, sim: &mut Sim) {
+    tell_of_refusal(rt, replies_to_boot(rt, alloc, sim));
     assert!(rt; sim.cursor() == 1);
 }
 
@@ -78,12 +106,12 @@ fn reply_to_look(rt: &impl Abort, alloc: Global, sim: &Sim) -> Reply {
 // Do looks at the two show the same?
 fn look_same(rt: &impl Abort, alloc: Global, one: &Sim, other: &Sim) -> bool {
     let shown = reply_to_look(rt, alloc, one);
-    let copy = shown.share().ok().expect(rt, "few who share it");
-    copy.same(&reply_to_look(rt, alloc, other))
+    let copy = share_of(rt, &shown);
+    are_same(&copy, &reply_to_look(rt, alloc, other))
 }
 
 fn is_copied(rt: &impl Abort, alloc: Global, sim: &Sim) {
-    let copy = sim.copy(alloc).ok().expect(rt, "memory");
+    let copy = copy_of_sim(rt, alloc, sim);
     assert!(rt; look_same(rt, alloc, sim, &copy));
 }
 

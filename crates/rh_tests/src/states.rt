@@ -1,8 +1,8 @@
 //! The calls of a state that take memory, with ample memory.
 
-use crate::support::cluster_of;
+use crate::support::{cluster_of, copy_of};
 use rh_calls::report;
-use rh_cluster::{App, Node};
+use rh_cluster::{App, Cluster, Node};
 use rh_samples::ONE_NODE;
 use rh_state::{Mode, Place, State, Timer, first_state};
 use std::alloc::Global;
@@ -36,12 +36,16 @@ fn has_timer(rt: &impl Abort, alloc: Global, state: &State) {
 // The first state of a cluster, which drops the cluster that was read.
 fn first_state_of(rt: &impl Abort, alloc: Global, text: &str) -> State {
     let cluster = cluster_of(rt, alloc, text);
-    first_state(alloc, &cluster).ok().expect(rt, "memory")
+    first_state_in(rt, alloc, &cluster)
+}
+
+fn first_state_in(rt: &impl Abort, alloc: Global, cluster: &Cluster) -> State {
+    first_state(alloc, cluster).ok().expect(rt, "memory")
 }
 
 // Has a copy the timer too?
 fn is_copied(rt: &impl Abort, alloc: Global, state: &State) {
-    let copy = state.copy(alloc).ok().expect(rt, "memory");
+    let copy = copy_of(rt, alloc, state);
     has_timer(rt, alloc, &copy);
 }
 
@@ -59,8 +63,14 @@ fn is_reported(rt: &impl Abort, alloc: Global, state: &State) {
 }
 
 fn reports_in_copy(rt: &impl Abort, alloc: Global, state: &State) {
-    let copy = state.copy(alloc).ok().expect(rt, "memory");
+    let copy = copy_of(rt, alloc, state);
     is_reported(rt, alloc, &copy);
+}
+
+fn has_no_timer(rt: &impl Abort, alloc: Global, state: &State) {
+    assert!(rt; state.earliest().is_none());
+    let timers = state.timers(alloc).ok().expect(rt, "memory");
+    assert!(rt; timers.is_empty());
 }
 
 #[test]
@@ -68,9 +78,7 @@ fn the_first_state_and_its_copy_report_the_same(rt: HostRuntime) {
     let state = first_state_of(&rt, rt.alloc(), ONE_NODE);
     is_reported(&rt, rt.alloc(), &state);
     reports_in_copy(&rt, rt.alloc(), &state);
-    assert!(rt; state.earliest().is_none());
-    let timers = state.timers(rt.alloc()).ok().expect(&rt, "memory");
-    assert!(rt; timers.is_empty());
+    has_no_timer(&rt, rt.alloc(), &state);
 }
 
 // A part that was set has its old value again.
@@ -103,12 +111,21 @@ fn a_timer_is_taken_back(rt: &impl Abort, state: &mut State) {
     state.back(&mut edit);
 }
 
+fn all_are_taken_back(rt: &impl Abort, state: &mut State) {
+    a_mode_is_taken_back(rt, state);
+    a_start_is_taken_back(rt, state);
+    a_timer_is_taken_back(rt, state);
+}
+
+// Has the state its words again behind all of that?
+fn has_its_words_again(rt: &impl Abort, alloc: Global, state: &mut State) {
+    let before = copy_of(rt, alloc, state);
+    all_are_taken_back(rt, state);
+    assert!(rt; state.same_words(&before));
+}
+
 #[test]
 fn what_setters_changed_is_taken_back(rt: HostRuntime) {
     let mut state = first_state_of(&rt, rt.alloc(), TWO_NODES);
-    let before = state.copy(rt.alloc()).ok().expect(&rt, "memory");
-    a_mode_is_taken_back(&rt, &mut state);
-    a_start_is_taken_back(&rt, &mut state);
-    a_timer_is_taken_back(&rt, &mut state);
-    assert!(rt; state.same_words(&before));
+    has_its_words_again(&rt, rt.alloc(), &mut state);
 }

@@ -70,34 +70,56 @@ fn are_told(rt: &impl Abort, told: &[Notice]) {
     assert!(rt; told == wanted.as_slice());
 }
 
-// The node is up, and the first and the last of its applications run, in this order.
-fn runs_the_others(rt: &impl Abort, state: &State) {
+// The node is up, for the first time.
+fn is_up(rt: &impl Abort, state: &State) {
     assert!(rt; state.cluster().node_count() == 1 && state.cluster().app_count() == 3);
     assert!(rt; state.mode(ONE) == Mode::Up && state.incarnation(ONE) == 1);
+}
+
+// Two of its applications run, and none waits.
+fn runs_two(rt: &impl Abort, state: &State) {
+    assert!(rt; state.cluster().node_count() == 1);
     assert!(rt; state.first_running(ONE) == Some(App(0)) && state.running_count(ONE) == 2);
+    assert!(rt; state.first_waiting(ONE).is_none());
+}
+
+// The last one stands behind the first.
+fn runs_in_order(rt: &impl Abort, state: &State) {
+    assert!(rt; state.cluster().node_count() == 1 && state.cluster().app_count() == 3);
     assert!(rt; state.next_in_list(ONE, App(0)) == Some(App(2)));
     assert!(rt; state.next_in_list(ONE, App(2)).is_none());
-    assert!(rt; state.first_waiting(ONE).is_none());
+}
+
+// The node is up, and the first and the last of its applications run, in this order.
+fn runs_the_others(rt: &impl Abort, state: &State) {
+    is_up(rt, state);
+    runs_two(rt, state);
+    runs_in_order(rt, state);
+}
+
+fn is_refused(rt: &impl Abort, state: &State, event: &Event, wanted: Refusal) {
+    assert!(rt; refusal_of(state, event) == Some(wanted));
+}
+
+// The node boots, and an application stops there.
+fn boots_and_stops(rt: &impl Abort, alloc: Global, state: &mut State, told: &mut Vec<Notice>)
+    requires { IsValid (read state.old) }
+{
+    is_refused(rt, state, &Event::Tick { ms: 0 }, Refusal::ZeroTick);
+    make(rt, alloc, state, &Event::Boot { node: ONE }, told);
+    is_refused(rt, state, &Event::Boot { node: ONE }, Refusal::AlreadyAlive);
+    let stop = Event::Stop {
+        node: ONE,
+        app: App(1),
+    };
+    make(rt, alloc, state, &stop, told);
 }
 
 #[test]
 fn a_state_steps_by_itself(rt: HostRuntime) {
     let mut state = first_state_of_one_node(&rt, rt.alloc());
     let mut told = Vec::new(rt.alloc());
-    assert!(rt; refusal_of(&state, &Event::Tick { ms: 0 }) == Some(Refusal::ZeroTick));
-    make(
-        &rt,
-        rt.alloc(),
-        &mut state,
-        &Event::Boot { node: ONE },
-        &mut told,
-    );
-    assert!(rt; refusal_of(&state, &Event::Boot { node: ONE }) == Some(Refusal::AlreadyAlive));
-    let stop = Event::Stop {
-        node: ONE,
-        app: App(1),
-    };
-    make(&rt, rt.alloc(), &mut state, &stop, &mut told);
+    boots_and_stops(&rt, rt.alloc(), &mut state, &mut told);
     are_told(&rt, told.as_slice());
     runs_the_others(&rt, &state);
 }

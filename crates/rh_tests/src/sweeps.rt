@@ -1,11 +1,12 @@
 //! Sweeps: two workers that are at work at once, outcomes for any number of workers, faults, and a simulation that a plan
 //! leaves as it was.
 
-use crate::support::{copy_of_state, make_all, sim_on};
+use crate::support::{copy_of_state, edits_of_third, has_words, make_all, sim_on, undo};
 use rh_base::Str;
 use rh_calls::Reply;
 use rh_cluster::{App, Node, Restart};
 use rh_samples::{CAVE, ONE_NODE};
+use rh_state::State;
 use rh_step::Event;
 use rh_sweep::{FreeGate, Gate, Outcome, Plan, SweepFault, sweep, try_plan};
 use rh_trail::Sim;
@@ -163,36 +164,16 @@ impl Gate for Meeting {
     fn leave<R: Wait>(&self, _rt: &R, _plan: usize) {}
 }
 
-// Do two workers meet, and give what one gives?
-fn meet<R: Threads + Wait + Abort + Sync>(rt: &R, alloc: Global, base: &Sim, plans: &[Plan]) {
-    let gate = Meeting::new(10_000_000);
-    let outcomes = sweep(rt, alloc, base, plans, 2, &gate)
-        .ok()
-        .expect(rt, "outcomes");
-    assert!(rt; gate.missed.load(Ordering::SeqCst) == 0);
-    let text = text_of(rt, alloc, outcomes.as_slice());
-    assert_eq!(rt; text.as_str(), TOLD);
-}
-
-// Does the first of two plans wait for the other in vain, where one worker has both?
-fn miss<R: Threads + Wait + Abort + Sync>(rt: &R, alloc: Global, base: &Sim, plans: &[Plan]) {
-    let gate = Meeting::new(100);
-    assert!(rt; sweep(rt, alloc, base, plans, 1, &gate).is_ok());
-    assert!(rt; gate.missed.load(Ordering::SeqCst) == 1);
-}
-
-#[test]
-fn two_workers_are_at_work_at_once(rt: HostRuntime) {
-    let base = sim_at_work(&rt, rt.alloc());
-    let plans = plans(&rt, rt.alloc());
-    meet(&rt, rt.alloc(), &base, plans.as_slice());
-}
-
-#[test]
-fn one_worker_meets_nobody(rt: HostRuntime) {
-    let base = sim_at_work(&rt, rt.alloc());
-    let plans = plans(&rt, rt.alloc());
-    miss(&rt, rt.alloc(), &base, plans.as_slice());
+// What so many workers give at a gate.
+fn outcomes_at<R: Threads + Wait + Sync, G: Gate + Sync>(
+    rt: &R,
+    alloc: Global,
+    base: &Sim,
+    plans: &[Plan],
+    workers: usize,
+    gate: &G,
+) -> Result<Vec<Outcome>, SweepFault> {
+    sweep(rt, alloc, base, plans, workers, gate)
 }
 
 // What so many workers give.
@@ -203,29 +184,69 @@ fn outcomes_by<R: Threads + Wait + Sync>(
     plans: &[Plan],
     workers: usize,
 ) -> Result<Vec<Outcome>, SweepFault> {
-    sweep(rt, alloc, base, plans, workers, &FreeGate)
+    outcomes_at(rt, alloc, base, plans, workers, &FreeGate)
 }
 
-fn give_the_same<R: Threads + Wait + Abort + Sync>(
+fn are_told(rt: &impl Abort, alloc: Global, outcomes: &[Outcome]) {
+    let text = text_of(rt, alloc, outcomes);
+    assert_eq!(rt; text.as_str(), TOLD);
+}
+
+// Do two workers meet, and give what one gives?
+fn meet<R: Threads + Wait + Abort + Sync>(rt: &R, alloc: Global, plans: &[Plan], gate: &Meeting) {
+    let base = sim_at_work(rt, alloc);
+    let outcomes = outcomes_at(rt, alloc, &base, plans, 2, gate)
+        .ok()
+        .expect(rt, "outcomes");
+    assert!(rt; gate.missed.load(Ordering::SeqCst) == 0);
+    are_told(rt, alloc, outcomes.as_slice());
+}
+
+// Does the first of two plans wait for the other in vain, where one worker has both?
+fn miss<R: Threads + Wait + Abort + Sync>(rt: &R, alloc: Global, plans: &[Plan], gate: &Meeting) {
+    let base = sim_at_work(rt, alloc);
+    assert!(rt; outcomes_at(rt, alloc, &base, plans, 1, gate).is_ok());
+    assert!(rt; gate.missed.load(Ordering::SeqCst) == 1);
+}
+
+#[test]
+fn two_workers_are_at_work_at_once(rt: HostRuntime) {
+    let plans = plans(&rt, rt.alloc());
+    let gate = Meeting::new(10_000_000);
+    meet(&rt, rt.alloc(), plans.as_slice(), &gate);
+}
+
+#[test]
+fn one_worker_meets_nobody(rt: HostRuntime) {
+    let plans = plans(&rt, rt.alloc());
+    let gate = Meeting::new(100);
+    miss(&rt, rt.alloc(), plans.as_slice(), &gate);
+}
+
+fn gives_the_same<R: Threads + Wait + Abort + Sync>(
     rt: &R,
     alloc: Global,
     base: &Sim,
     plans: &[Plan],
+    workers: usize,
 ) {
+    let outcomes = outcomes_by(rt, alloc, base, plans, workers)
+        .ok()
+        .expect(rt, "outcomes");
+    are_told(rt, alloc, outcomes.as_slice());
+}
+
+fn give_the_same<R: Threads + Wait + Abort + Sync>(rt: &R, alloc: Global, plans: &[Plan]) {
+    let base = sim_at_work(rt, alloc);
     for workers in [1, 2, 4, 16] {
-        let outcomes = outcomes_by(rt, alloc, base, plans, workers)
-            .ok()
-            .expect(rt, "outcomes");
-        let text = text_of(rt, alloc, outcomes.as_slice());
-        assert_eq!(rt; text.as_str(), TOLD);
+        gives_the_same(rt, alloc, &base, plans, workers);
     }
 }
 
 #[test]
 fn the_number_of_workers_has_no_effect(rt: HostRuntime) {
-    let base = sim_at_work(&rt, rt.alloc());
     let plans = plans(&rt, rt.alloc());
-    give_the_same(&rt, rt.alloc(), &base, plans.as_slice());
+    give_the_same(&rt, rt.alloc(), plans.as_slice());
 }
 
 // Is this sweep refused so?
@@ -255,7 +276,7 @@ fn a_sweep_has_1_to_16_workers(rt: HostRuntime) {
 #[test]
 fn the_base_has_a_step_to_make_again(rt: HostRuntime) {
     let mut base = sim_at_work(&rt, rt.alloc());
-    assert!(rt; base.undo().is_ok());
+    assert!(rt; undo(&mut base).is_some());
     is_refused(&rt, rt.alloc(), &base, &[], 1, "V2 base_not_at_end");
 }
 
@@ -268,13 +289,18 @@ fn sim_with_full_trail(rt: &impl Abort, alloc: Global) -> Sim {
     base
 }
 
+// Is a plan refused for want of room?
+fn has_no_room<R: Threads + Wait + Abort + Sync>(rt: &R, alloc: Global, base: &Sim) {
+    let plans = plans_of(alloc, &[TICK.as_slice()])
+        .ok()
+        .expect(rt, "memory");
+    is_refused(rt, alloc, base, plans.as_slice(), 1, "V3 trail_room");
+}
+
 #[test]
 fn the_base_has_no_room(rt: HostRuntime) {
     let base = sim_with_full_trail(&rt, rt.alloc());
-    let plans = plans_of(rt.alloc(), &[TICK.as_slice()])
-        .ok()
-        .expect(&rt, "memory");
-    is_refused(&rt, rt.alloc(), &base, plans.as_slice(), 1, "V3 trail_room");
+    has_no_room(&rt, rt.alloc(), &base);
 }
 
 // What a look at the simulation shows.
@@ -289,33 +315,47 @@ fn outcome_of(rt: &impl Abort, alloc: Global, sim: &mut Sim, plan: &Plan) -> Out
     try_plan(alloc, sim, plan).ok().expect(rt, "an outcome")
 }
 
-// Has each of these plans its outcome, and leaves it as it was?
-fn stays(rt: &impl Abort, alloc: Global, sim: &mut Sim, plans: &[Plan]) {
+// Tries a plan, and tells its outcome.
+fn tell_trial(rt: &impl Abort, alloc: Global, sim: &mut Sim, plan: &Plan, text: &mut String) {
+    let outcome = outcome_of(rt, alloc, sim, plan);
+    assert!(rt; tell_outcome(text, &outcome).is_ok());
+}
+
+// Does a look at the simulation show this?
+fn shows(rt: &impl Abort, alloc: Global, sim: &Sim, before: &Reply) -> bool {
+    before.same(&reply_to_look(rt, alloc, sim))
+}
+
+// Has each of these plans its outcome, and leaves the simulation as it was, which had these words?
+fn stays_at(rt: &impl Abort, alloc: Global, sim: &mut Sim, plans: &[Plan], words: &State) {
     let before = reply_to_look(rt, alloc, sim);
-    let words = copy_of_state(rt, alloc, sim);
     let mut text = String::new(alloc);
     for plan in plans {
-        let outcome = outcome_of(rt, alloc, sim, plan);
-        assert!(rt; tell_outcome(&mut text, &outcome).is_ok());
-        assert!(rt; before.same(&reply_to_look(rt, alloc, sim)));
-        assert!(rt; sim.state().same_words(&words));
+        tell_trial(rt, alloc, sim, plan, &mut text);
+        assert!(rt; shows(rt, alloc, sim, &before));
+        assert!(rt; has_words(sim, words));
     }
     assert_eq!(rt; text.as_str(), TOLD);
 }
 
-// How many edits the last of the three boots made.
-fn edits_of_last(rt: &impl Abort, sim: &Sim) -> usize {
-    assert!(rt; sim.trail().len() == 3);
-    sim.record(2).len()
+// Has each of these plans its outcome, and leaves it as it was?
+fn stays(rt: &impl Abort, alloc: Global, sim: &mut Sim, plans: &[Plan]) {
+    let words = copy_of_state(rt, alloc, sim);
+    stays_at(rt, alloc, sim, plans, &words);
+}
+
+// Is the last step there to be taken back, with as many edits as before all plans?
+fn keeps_its_last_step(rt: &impl Abort, alloc: Global, plans: &[Plan]) {
+    let mut sim = sim_at_work(rt, alloc);
+    let edits = edits_of_third(rt, &sim);
+    stays(rt, alloc, &mut sim, plans);
+    assert!(rt; undo(&mut sim) == Some(edits));
 }
 
 #[test]
 fn a_plan_leaves_the_simulation_as_it_was(rt: HostRuntime) {
-    let mut sim = sim_at_work(&rt, rt.alloc());
     let plans = plans(&rt, rt.alloc());
-    let edits = edits_of_last(&rt, &sim);
-    stays(&rt, rt.alloc(), &mut sim, plans.as_slice());
-    assert!(rt; sim.undo().ok() == Some(edits));
+    keeps_its_last_step(&rt, rt.alloc(), plans.as_slice());
 }
 
 // The first node takes the application back.
@@ -344,37 +384,52 @@ fn long_plans(alloc: Global) -> Result<Vec<Plan>, AllocError> {
     Ok(plans)
 }
 
+// How many edits the takeover has that follows the three boots.
+fn edits_of_takeover(rt: &impl Abort, sim: &Sim) -> usize {
+    assert!(rt; sim.trail().len() == 4);
+    sim.record(3).len()
+}
+
 // Has the takeover so many edits that 32,000 of them are more than 65,536?
 fn is_long(rt: &impl Abort, alloc: Global) {
     let mut sim = sim_at_work(rt, alloc);
     make_all(rt, alloc, &mut sim, HAND.as_slice());
-    assert!(rt; sim.trail().len() == 4);
-    assert!(rt; sim.record(3).len() >= 3);
+    assert!(rt; edits_of_takeover(rt, &sim) >= 3);
+}
+
+// What each of these plans comes to on the simulation.
+fn text_of_trials(rt: &impl Abort, alloc: Global, sim: &mut Sim, plans: &[Plan]) -> String {
+    let mut text = String::new(alloc);
+    for plan in plans {
+        tell_trial(rt, alloc, sim, plan, &mut text);
+    }
+    text
+}
+
+// What each of them comes to, swept by one worker.
+fn text_of_sweep<R: Threads + Wait + Abort + Sync>(
+    rt: &R,
+    alloc: Global,
+    base: &Sim,
+    plans: &[Plan],
+) -> String {
+    let outcomes = outcomes_by(rt, alloc, base, plans, 1)
+        .ok()
+        .expect(rt, "outcomes");
+    text_of(rt, alloc, outcomes.as_slice())
 }
 
 // Has each of these plans, swept by one worker, the outcome that it has on the simulation?
-fn keep_the_outcomes<R: Threads + Wait + Abort + Sync>(
-    rt: &R,
-    alloc: Global,
-    sim: &mut Sim,
-    plans: &[Plan],
-) {
-    let mut text = String::new(alloc);
-    for plan in plans {
-        let outcome = outcome_of(rt, alloc, sim, plan);
-        assert!(rt; tell_outcome(&mut text, &outcome).is_ok());
-    }
-    let outcomes = outcomes_by(rt, alloc, sim, plans, 1)
-        .ok()
-        .expect(rt, "outcomes");
-    let swept = text_of(rt, alloc, outcomes.as_slice());
+fn keep_the_outcomes<R: Threads + Wait + Abort + Sync>(rt: &R, alloc: Global, plans: &[Plan]) {
+    let mut sim = sim_at_work(rt, alloc);
+    let text = text_of_trials(rt, alloc, &mut sim, plans);
+    let swept = text_of_sweep(rt, alloc, &sim, plans);
     assert_eq!(rt; swept.as_str(), text.as_str());
 }
 
 #[test]
 fn a_plan_of_more_edits_than_are_kept_is_taken_back(rt: HostRuntime) {
     is_long(&rt, rt.alloc());
-    let mut sim = sim_at_work(&rt, rt.alloc());
     let plans = long_plans(rt.alloc()).ok().expect(&rt, "memory");
-    keep_the_outcomes(&rt, rt.alloc(), &mut sim, plans.as_slice());
+    keep_the_outcomes(&rt, rt.alloc(), plans.as_slice());
 }

@@ -1,50 +1,12 @@
 //! Terms: what is read of each construct and of lists that come again, copies, terms that are shared, and terms made by hand.
 
+use crate::shown::{
+    are_shown, copy_of, in_shared, kept_behind, kept_of, reads, reads_kept, share_of, terms_of,
+};
 use rh_base::{Str, Term, Terms};
-use rh_terms::{Keep, TermFault, read_kept, read_terms};
-use std::alloc::{AllocError, Global};
+use rh_terms::TermFault;
+use std::alloc::Global;
 use std::process::Abort;
-
-/// The term as Erlang writes it, but an atom without quotes and a text as it stands, and a comma behind each part.
-#[cycle(showing)]
-pub fn show_term(out: &mut String, term: &Term) -> Result<(), AllocError> {
-    match term {
-        Term::Atom(name) => out.push_str(name.as_str()),
-        Term::Int(n) => write!(out, "{n}"),
-        Term::Text(text) => write!(out, "\"{}\"", text.as_str()),
-        Term::List(terms) => {
-            out.push_str("[")?;
-            show_terms(out, terms)?;
-            out.push_str("]")
-        }
-        Term::Tuple(terms) => {
-            out.push_str("{")?;
-            show_terms(out, terms)?;
-            out.push_str("}")
-        }
-    }
-}
-
-// The terms, a comma behind each.
-#[cycle(showing)]
-fn show_terms(out: &mut String, terms: &Terms) -> Result<(), AllocError> {
-    for term in terms.as_slice() {
-        show_term(out, term)?;
-        out.push_str(",")?;
-    }
-    Ok(())
-}
-
-// Are the terms shown so?
-fn are_shown(rt: &impl Abort, alloc: Global, terms: &Terms, want: &str) {
-    let mut out = String::new(alloc);
-    show_terms(&mut out, terms).expect(rt, "memory");
-    assert_eq!(rt; out.as_str(), want);
-}
-
-fn terms_of(rt: &impl Abort, alloc: Global, text: &str) -> Terms {
-    read_terms(alloc, text.as_bytes()).ok().expect(rt, "terms")
-}
 
 #[test]
 fn every_construct(rt: HostRuntime) {
@@ -57,12 +19,17 @@ fn every_construct(rt: HostRuntime) {
     are_shown(&rt, rt.alloc(), &terms, want);
 }
 
+// Is a copy shown so, and the same?
+fn is_copied(rt: &impl Abort, alloc: Global, terms: &Terms, want: &str) {
+    let copy = copy_of(rt, alloc, terms);
+    are_shown(rt, alloc, &copy, want);
+    assert!(rt; copy.same(terms));
+}
+
 #[test]
 fn a_copy_is_equal(rt: HostRuntime) {
     let terms = terms_of(&rt, rt.alloc(), "[primary]. {'a b', \"c\", [-1]}.");
-    let copy = terms.copy(rt.alloc()).ok().expect(&rt, "memory");
-    are_shown(&rt, rt.alloc(), &copy, "[primary,],{a b,\"c\",[-1,],},");
-    assert!(rt; copy.same(&terms));
+    is_copied(&rt, rt.alloc(), &terms, "[primary,],{a b,\"c\",[-1,],},");
 }
 
 // Are the terms the same, seen from both sides?
@@ -97,11 +64,8 @@ fn equal_terms_are_the_same(rt: HostRuntime) {
 
 // The text's terms, which were shared with a list that is gone.
 fn shared_of(rt: &impl Abort, alloc: Global, text: &str) -> Terms {
-    let terms = terms_of(rt, alloc, text);
-    let first = terms.into_shared(alloc).ok().expect(rt, "memory");
-    let second = first.share(alloc).ok().expect(rt, "memory");
-    drop(first);
-    second
+    let first = in_shared(rt, alloc, terms_of(rt, alloc, text));
+    share_of(rt, alloc, &first)
 }
 
 #[test]
@@ -116,38 +80,74 @@ fn shared_terms_stay_where_others_go(rt: HostRuntime) {
     }
 }
 
+// A copy, which is the same.
+fn same_copy_of(rt: &impl Abort, alloc: Global, terms: &Terms) -> Terms {
+    let copy = copy_of(rt, alloc, terms);
+    assert!(rt; are_terms_same(rt, &copy, terms));
+    copy
+}
+
+// A copy of the text's terms, which were shared and are gone.
+fn copy_of_shared(rt: &impl Abort, alloc: Global, text: &str) -> Terms {
+    let shared = shared_of(rt, alloc, text);
+    same_copy_of(rt, alloc, &shared)
+}
+
 #[test]
 fn a_copy_of_shared_terms_is_equal(rt: HostRuntime) {
-    let shared = shared_of(&rt, rt.alloc(), "{a, [1, \"t\"]}. [].");
-    let copy = shared.copy(rt.alloc()).ok().expect(&rt, "memory");
-    assert!(rt; are_terms_same(&rt, &copy, &shared));
-    drop(shared);
+    let copy = copy_of_shared(&rt, rt.alloc(), "{a, [1, \"t\"]}. [].");
     are_shown(&rt, rt.alloc(), &copy, "{a,[1,\"t\",],},[],");
+}
+
+// Are shared terms shown so where they are shared again? They are gone then.
+fn are_shown_again(rt: &impl Abort, alloc: Global, shared: Terms, want: &str) {
+    let again = in_shared(rt, alloc, shared);
+    are_shown(rt, alloc, &again, want);
+}
+
+// The text's terms, which were shared with others that were shown so, and are gone.
+fn shared_and_shown(rt: &impl Abort, alloc: Global, text: &str, want: &str) -> Terms {
+    let first = shared_of(rt, alloc, text);
+    let second = share_of(rt, alloc, &first);
+    are_shown_again(rt, alloc, first, want);
+    second
 }
 
 #[test]
 fn terms_are_shared_twice(rt: HostRuntime) {
-    let first = shared_of(&rt, rt.alloc(), "{a, [1, \"t\"]}. [].");
-    let second = first.share(rt.alloc()).ok().expect(&rt, "memory");
-    let again = first.into_shared(rt.alloc()).ok().expect(&rt, "memory");
-    are_shown(&rt, rt.alloc(), &again, "{a,[1,\"t\",],},[],");
-    drop(again);
-    are_shown(&rt, rt.alloc(), &second, "{a,[1,\"t\",],},[],");
+    let want = "{a,[1,\"t\",],},[],";
+    let second = shared_and_shown(&rt, rt.alloc(), "{a, [1, \"t\"]}. [].", want);
+    are_shown(&rt, rt.alloc(), &second, want);
+}
+
+// Terms that these are asked to share, which are the same.
+fn same_share_of(rt: &impl Abort, alloc: Global, terms: &Terms) -> Terms {
+    let more = share_of(rt, alloc, terms);
+    assert!(rt; are_terms_same(rt, &more, terms));
+    more
+}
+
+// What the text's terms share, which aren't shared and are gone.
+fn share_of_own(rt: &impl Abort, alloc: Global, text: &str) -> Terms {
+    let own = terms_of(rt, alloc, text);
+    same_share_of(rt, alloc, &own)
 }
 
 #[test]
 fn terms_that_are_not_shared_are_copied(rt: HostRuntime) {
-    let own = terms_of(&rt, rt.alloc(), "{a, [1, \"t\"]}. [].");
-    let more = own.share(rt.alloc()).ok().expect(&rt, "memory");
-    assert!(rt; are_terms_same(&rt, &more, &own));
-    drop(own);
+    let more = share_of_own(&rt, rt.alloc(), "{a, [1, \"t\"]}. [].");
     are_shown(&rt, rt.alloc(), &more, "{a,[1,\"t\",],},[],");
+}
+
+// Is the text's list of terms, which is shared, the same as this one?
+fn is_same_shared(rt: &impl Abort, alloc: Global, shared: &Terms, text: &str) -> bool {
+    are_terms_same(rt, shared, &shared_of(rt, alloc, text))
 }
 
 // Is the text's list of terms the same as this one, whether they are shared or not?
 fn is_same_shared_too(rt: &impl Abort, alloc: Global, shared: &Terms, text: &str) -> bool {
     let answer = is_same(rt, alloc, shared, text);
-    assert!(rt; are_terms_same(rt, shared, &shared_of(rt, alloc, text)) == answer);
+    assert!(rt; is_same_shared(rt, alloc, shared, text) == answer);
     answer
 }
 
@@ -193,28 +193,18 @@ fn made_by_hand(rt: HostRuntime) {
     is_shown(&rt, rt.alloc(), &terms);
 }
 
-// All is kept but what stands behind `skip`.
-#[derive(Clone, Copy)]
-struct AllButSkip;
-
-impl Keep for AllButSkip {
-    ghost use Rattle.std.specs.Prelude.{None, Some, codes, if◌then◌else◌};
-    ghost use Rattle.std.specs.Str.{bytes_eq};
-
-    ghost behind_key = { λ all key. if bytes_eq key (codes "skip") then None else Some all };
-
-    fn behind(self, key: &str) -> Option<AllButSkip> {
-        if key == "skip" { None } else { Some(self) }
-    }
+// What is kept of the text is shown so.
+fn is_kept(rt: &impl Abort, alloc: Global, text: &str, want: &str) {
+    let terms = kept_of(rt, alloc, text);
+    are_shown(rt, alloc, &terms, want);
 }
 
 #[test]
 fn skipped_terms_are_not_kept(rt: HostRuntime) {
     let text =
         "{skip, [a, {b}], {c}, \"t\", 'q', -7}. {keep, [{skip, [1], x}, skip, [skip, 2]]}. {{skip, 3}, 4}.";
-    let terms = read_kept(rt.alloc(), AllButSkip, text.as_bytes());
     let want = "{skip,[],{},{},{},{},},{keep,[{skip,[],{},},skip,[skip,2,],],},{{skip,{},},4,},";
-    are_shown(&rt, rt.alloc(), &terms.ok().expect(&rt, "terms"), want);
+    is_kept(&rt, rt.alloc(), text, want);
 }
 
 #[test]
@@ -232,8 +222,7 @@ fn skipped_terms_have_their_faults(rt: HostRuntime) {
         ("{skip, 1.5}.", TermFault::Unsupported { line: 1 }),
         ("{skip, -9223372036854775809}.", TermFault::IntRange),
     ] {
-        let answer = read_kept(rt.alloc(), AllButSkip, text.as_bytes());
-        assert!(rt; answer.err() == Some(want), "{text}");
+        assert!(rt; reads_kept(rt.alloc(), text).err() == Some(want), "{text}");
     }
 }
 
@@ -257,8 +246,7 @@ fn skipped_lists_that_come_again(rt: HostRuntime) {
             "{skip,[],},{skip,[],},{skip,[],{},},{skip,[],},{skip,{},},{skip,[],},",
         ),
     ] {
-        let terms = read_kept(rt.alloc(), AllButSkip, text.as_bytes());
-        are_shown(&rt, rt.alloc(), &terms.ok().expect(&rt, "terms"), want);
+        is_kept(&rt, rt.alloc(), text, want);
     }
 }
 
@@ -294,8 +282,7 @@ fn faults_behind_skipped_lists_that_come_again(rt: HostRuntime) {
             TermFault::Unsupported { line: 2 },
         ),
     ] {
-        let answer = read_kept(rt.alloc(), AllButSkip, text.as_bytes());
-        assert!(rt; answer.err() == Some(want), "{text}");
+        assert!(rt; reads_kept(rt.alloc(), text).err() == Some(want), "{text}");
     }
 }
 
@@ -368,8 +355,7 @@ fn faults_behind_lists_that_come_again(rt: HostRuntime) {
         ),
         ("{[a],\n[a],\n[a]\n| b}.", TermFault::Syntax { line: 4 }),
     ] {
-        let answer = read_terms(rt.alloc(), text.as_bytes());
-        assert!(rt; answer.err() == Some(want), "{text}");
+        assert!(rt; reads(rt.alloc(), text).err() == Some(want), "{text}");
     }
 }
 
@@ -408,7 +394,7 @@ fn is_read_inside(
     tuples: usize,
 ) -> Result<(), TermFault> {
     let text = again_inside(rt, alloc, "[[a]]", before, tuples);
-    read_terms(alloc, text.as_bytes()).map(|_| ())
+    reads(alloc, text.as_str())
 }
 
 // Two lists nest, so that 62 tuples may stand round them.
@@ -429,7 +415,7 @@ fn is_skipped_inside(
     tuples: usize,
 ) -> Result<(), TermFault> {
     let text = again_inside(rt, alloc, "{skip, [[a]]}", before, tuples);
-    read_kept(alloc, AllButSkip, text.as_bytes()).map(|_| ())
+    reads_kept(alloc, text.as_str())
 }
 
 // A tuple more is that with `skip`.
@@ -442,40 +428,12 @@ fn a_skipped_list_that_comes_again_too_deep(rt: HostRuntime) {
     assert!(rt; is_skipped_inside(&rt, rt.alloc(), 61, 62).err() == Some(TermFault::TooDeep));
 }
 
-// What stands behind `keep` is kept.
-#[derive(Clone, Copy)]
-struct Behind {
-    is_kept: bool,
-}
-
-impl Keep for Behind {
-    ghost use Rattle.std.specs.Prelude.{None, Some, true, codes, if◌then◌else◌};
-    ghost use Rattle.std.specs.Str.{bytes_eq};
-
-    ghost behind_key = { λ k key. if k.is_kept then Some k else if bytes_eq key (codes "keep")
-        then Some (record { is_kept = true }) else None };
-
-    fn behind(self, key: &str) -> Option<Behind> {
-        if self.is_kept {
-            Some(self)
-        } else if key == "keep" {
-            Some(Behind { is_kept: true })
-        } else {
-            None
-        }
-    }
-
-    fn is_whole(self) -> bool {
-        self.is_kept
-    }
-}
-
 #[test]
 fn only_lists_that_are_kept_whole_are_shared(rt: HostRuntime) {
     let text =
         "[a, {b, 1}]. {keep, [a, {b, 1}]}. {other, [a, {b, 1}]}. {keep, [a, {b, 1}], x}. [a, {b, 1}]. {keep, [a, {b, 1}]}.";
-    let terms = read_kept(rt.alloc(), Behind { is_kept: false }, text.as_bytes());
+    let terms = kept_behind(&rt, rt.alloc(), text);
     let want =
         "[a,{b,{},},],{keep,[a,{b,1,},],},{other,[],},{keep,[a,{b,1,},],x,},[a,{b,{},},],{keep,[a,{b,1,},],},";
-    are_shown(&rt, rt.alloc(), &terms.ok().expect(&rt, "terms"), want);
+    are_shown(&rt, rt.alloc(), &terms, want);
 }

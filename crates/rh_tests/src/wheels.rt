@@ -1,6 +1,7 @@
 //! Timers in firing order.
 
 use rh_wheel::Wheel;
+use std::alloc::Global;
 use std::process::Abort;
 use std::test::Fail;
 
@@ -28,13 +29,18 @@ fn fire_in_order(rt: &impl Abort, wheel: &mut Wheel) {
     assert!(rt; wheel.earliest() == Some((100, 2)) && wheel.due_of(0).is_none());
 }
 
+// Has a copy the same timers?
+fn is_copied(rt: &impl Abort, alloc: Global, wheel: &Wheel) {
+    let copy = wheel.copy(alloc).ok().expect(rt, "memory");
+    assert!(rt; copy.earliest() == Some((100, 2)) && copy.same_words(wheel));
+}
+
 #[test]
 fn due_together_in_the_order_of_arming(rt: HostRuntime) -> Result<(), Fail> {
     let mut wheel = Wheel::new(rt.alloc(), 3)?;
     arm_three(&rt, &mut wheel);
     take_back(&rt, &mut wheel);
     fire_in_order(&rt, &mut wheel);
-    let copy = wheel.copy(rt.alloc())?;
-    assert!(rt; copy.earliest() == Some((100, 2)) && copy.same_words(&wheel));
+    is_copied(&rt, rt.alloc(), &wheel);
     Ok(())
 }

@@ -1,9 +1,10 @@
 //! The courses of the manual's cluster, and of two applications that come back at different times of one tick.
 
-use rh_cluster::{App, Node, read_cluster};
+use crate::support::{make_all, sim_on};
+use rh_cluster::{App, Node};
 use rh_courses::{Course, course_text, courses_of};
 use rh_samples::CAVE;
-use rh_step::{Event, Pick};
+use rh_step::Event;
 use rh_trail::Sim;
 use std::alloc::Global;
 use std::process::Abort;
@@ -48,21 +49,6 @@ static ALPHA_STOPS: [Event; 1] = [Event::Stop {
 
 static LATER: [Event; 1] = [Event::Tick { ms: 500 }];
 
-fn sim_on(rt: &impl Abort, alloc: Global, text: &str) -> Sim {
-    let cluster = read_cluster(alloc, text.as_bytes())
-        .ok()
-        .expect(rt, "a cluster");
-    Sim::open(alloc, cluster, Pick::First)
-        .ok()
-        .expect(rt, "memory")
-}
-
-fn make_all(rt: &impl Abort, alloc: Global, sim: &mut Sim, events: &[Event]) {
-    for event in events {
-        assert!(rt; sim.step(alloc, *event).is_ok());
-    }
-}
-
 // Is this the line of a course?
 fn reads(rt: &impl Abort, alloc: Global, sim: &Sim, course: &Course, wanted: &str) -> bool {
     let text = course_text(alloc, sim.cluster(), course)
@@ -71,13 +57,37 @@ fn reads(rt: &impl Abort, alloc: Global, sim: &Sim, course: &Course, wanted: &st
     text.as_str() == wanted
 }
 
-// The course of this number has this line, and the simulation stands where it stood.
-fn is(rt: &impl Abort, alloc: Global, sim: &mut Sim, number: usize, wanted: &str) {
+// The courses of a simulation, which then stands where it stood.
+fn all_courses(rt: &impl Abort, alloc: Global, sim: &mut Sim) -> Vec<Course> {
     let before = sim.cursor();
     let courses = courses_of(alloc, sim).ok().expect(rt, "memory");
     assert!(rt; sim.cursor() == before);
+    courses
+}
+
+// The course of this number has this line, and the simulation stands where it stood.
+fn is(rt: &impl Abort, alloc: Global, sim: &mut Sim, number: usize, wanted: &str) {
+    let courses = all_courses(rt, alloc, sim);
     assert!(rt; number < courses.len());
     assert!(rt; reads(rt, alloc, sim, &courses[number], wanted));
+}
+
+// Behind these events, too, the first course has this line.
+fn is_behind(rt: &impl Abort, alloc: Global, sim: &mut Sim, events: &[Event], wanted: &str) {
+    make_all(rt, alloc, sim, events);
+    is(rt, alloc, sim, 0, wanted);
+}
+
+fn undo(rt: &impl Abort, sim: &mut Sim) {
+    assert!(rt; sim.undo().is_ok());
+}
+
+fn redo(rt: &impl Abort, sim: &mut Sim) {
+    assert!(rt; sim.redo().is_ok());
+}
+
+fn undo_all(sim: &mut Sim) {
+    let _ = sim.undo_all();
 }
 
 static NEVER: &str = "myapp never ran";
@@ -92,21 +102,22 @@ static BACK: &str =
 
 fn cave_in_turn(rt: &impl Abort, alloc: Global, sim: &mut Sim) {
     is(rt, alloc, sim, 0, NEVER);
-    make_all(rt, alloc, sim, CAVE_BOOTS.as_slice());
-    is(rt, alloc, sim, 0, BOOTED);
-    make_all(rt, alloc, sim, FIRST_IS_LOST.as_slice());
+    is_behind(rt, alloc, sim, CAVE_BOOTS.as_slice(), BOOTED);
+    is_behind(rt, alloc, sim, FIRST_IS_LOST.as_slice(), LOST);
+}
+
+// What was taken back doesn't count.
+fn takeover_and_back(rt: &impl Abort, alloc: Global, sim: &mut Sim) {
+    is_behind(rt, alloc, sim, FIRST_COMES_BACK.as_slice(), BACK);
+    undo(rt, sim);
     is(rt, alloc, sim, 0, LOST);
 }
 
-// What was taken back doesn't count, and counts again where it is made again.
-fn takeover_and_back(rt: &impl Abort, alloc: Global, sim: &mut Sim) {
-    make_all(rt, alloc, sim, FIRST_COMES_BACK.as_slice());
+// It counts again where it is made again.
+fn takeover_again(rt: &impl Abort, alloc: Global, sim: &mut Sim) {
+    redo(rt, sim);
     is(rt, alloc, sim, 0, BACK);
-    assert!(rt; sim.undo().is_ok());
-    is(rt, alloc, sim, 0, LOST);
-    assert!(rt; sim.redo().is_ok());
-    is(rt, alloc, sim, 0, BACK);
-    let _ = sim.undo_all();
+    undo_all(sim);
     is(rt, alloc, sim, 0, NEVER);
 }
 
@@ -115,6 +126,7 @@ fn the_cluster_of_the_manual(rt: HostRuntime) {
     let mut sim = sim_on(&rt, rt.alloc(), CAVE);
     cave_in_turn(&rt, rt.alloc(), &mut sim);
     takeover_and_back(&rt, rt.alloc(), &mut sim);
+    takeover_again(&rt, rt.alloc(), &mut sim);
 }
 
 static ALPHA: &str =
@@ -129,13 +141,10 @@ static STILL_STOPPED: &str =
     "alpha ran at a@x 0 to 1000, at b@x 3000 to 11000; nowhere for 2500 ms in 2 pieces";
 
 fn pair_in_turn(rt: &impl Abort, alloc: Global, sim: &mut Sim) {
-    make_all(rt, alloc, sim, PAIR_LOSES_ONE.as_slice());
-    is(rt, alloc, sim, 0, ALPHA);
+    is_behind(rt, alloc, sim, PAIR_LOSES_ONE.as_slice(), ALPHA);
     is(rt, alloc, sim, 1, BETA);
-    make_all(rt, alloc, sim, ALPHA_STOPS.as_slice());
-    is(rt, alloc, sim, 0, STOPPED);
-    make_all(rt, alloc, sim, LATER.as_slice());
-    is(rt, alloc, sim, 0, STILL_STOPPED);
+    is_behind(rt, alloc, sim, ALPHA_STOPS.as_slice(), STOPPED);
+    is_behind(rt, alloc, sim, LATER.as_slice(), STILL_STOPPED);
 }
 
 #[test]

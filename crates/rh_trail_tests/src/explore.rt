@@ -1,6 +1,7 @@
 //! Searches through all states of the clusters of the tests.
 
-use rh_cluster::{App, Node, read_cluster};
+use crate::support::{make_all, sim_on};
+use rh_cluster::{App, Node};
 use rh_explore::{
     Alone, Ask, Bounds, Condition, Covered, Explored, Move, Nobody, Search, Threaded, Verdict,
     explore,
@@ -36,15 +37,8 @@ static ONE_BOOTS: [Move; 2] = [
 
 // A simulation on the cluster that a text describes, behind the first events.
 fn sim_behind(rt: &impl Abort, alloc: Global, text: &str, first: &[Event]) -> Sim {
-    let cluster = read_cluster(alloc, text.as_bytes())
-        .ok()
-        .expect(rt, "a cluster");
-    let mut sim = Sim::open(alloc, cluster, Pick::First)
-        .ok()
-        .expect(rt, "memory");
-    for event in first {
-        assert!(rt; sim.step(alloc, *event).is_ok());
-    }
+    let mut sim = sim_on(rt, alloc, text);
+    make_all(rt, alloc, &mut sim, first);
     sim
 }
 
@@ -59,6 +53,18 @@ fn answers_on(
     asks: &[Ask],
 ) -> Explored {
     let sim = sim_behind(rt, alloc, text, first);
+    answers_from(rt, alloc, &sim, may, bounds, asks)
+}
+
+// What is found from the state of a simulation.
+fn answers_from(
+    rt: &impl Abort,
+    alloc: Global,
+    sim: &Sim,
+    may: &[Move],
+    bounds: &Bounds,
+    asks: &[Ask],
+) -> Explored {
     let search = Search {
         base: sim.state(),
         pick: Pick::First,
@@ -310,6 +316,18 @@ fn answers_by<R: Threads + Abort + Sync>(
     asks: &[Ask],
 ) -> Explored {
     let sim = sim_behind(rt, alloc, CAVE, ALL_BOOT.as_slice());
+    answers_by_from(rt, alloc, &sim, workers, bounds, asks)
+}
+
+// What they find from the state of a simulation.
+fn answers_by_from<R: Threads + Abort + Sync>(
+    rt: &R,
+    alloc: Global,
+    sim: &Sim,
+    workers: usize,
+    bounds: &Bounds,
+    asks: &[Ask],
+) -> Explored {
     let search = Search {
         base: sim.state(),
         pick: Pick::First,
@@ -323,18 +341,31 @@ fn answers_by<R: Threads + Abort + Sync>(
         .expect(rt, "memory")
 }
 
+fn find_up_to_eight<R: Threads + Abort + Sync>(
+    rt: &R,
+    alloc: Global,
+    workers: usize,
+    asks: &[Ask],
+) {
+    let eight = answers_by(rt, alloc, workers, &up_to(8), asks);
+    assert!(rt; eight.states == 399);
+    assert!(rt; eight.covered == Covered::UpTo(8));
+    are_right(rt, &eight);
+}
+
+fn find_all<R: Threads + Abort + Sync>(rt: &R, alloc: Global, workers: usize, no_asks: &[Ask]) {
+    let all = answers_by(rt, alloc, workers, &up_to(100), no_asks);
+    assert!(rt; all.states == 1_755);
+    assert!(rt; all.covered == Covered::All);
+}
+
 // What others count and tell (above) is found by any number of workers.
 fn find_the_same<R: Threads + Abort + Sync>(rt: &R, alloc: Global) {
     let asks = two_asks(rt, alloc);
     let no_asks = Vec::new(alloc);
     for workers in [1, 2, 4, 16] {
-        let eight = answers_by(rt, alloc, workers, &up_to(8), asks.as_slice());
-        assert!(rt; eight.states == 399);
-        assert!(rt; eight.covered == Covered::UpTo(8));
-        are_right(rt, &eight);
-        let all = answers_by(rt, alloc, workers, &up_to(100), no_asks.as_slice());
-        assert!(rt; all.states == 1_755);
-        assert!(rt; all.covered == Covered::All);
+        find_up_to_eight(rt, alloc, workers, asks.as_slice());
+        find_all(rt, alloc, workers, no_asks.as_slice());
     }
 }
 

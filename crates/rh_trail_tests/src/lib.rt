@@ -13,6 +13,8 @@ mod passes;
 #[cfg(test)]
 mod rooms;
 #[cfg(test)]
+mod support;
+#[cfg(test)]
 mod told;
 #[cfg(test)]
 mod turns;

@@ -1,11 +1,12 @@
 //! Rooms: what sessions are told in turn, passes that aren't the room's, limits, and rooms that don't close.
 
+use crate::support::cluster_of;
 use crate::told::{
-    Open, cluster_of, open_for, tell_calls, tell_how_it_closes, tell_kept, tell_served,
+    Open, open_for, open_on, served, tell_calls, tell_how_it_closes, tell_kept, tell_served,
 };
 use rh_calls::{Call, Reply, report};
 use rh_cluster::Node;
-use rh_room::{Pass, Room, RoomFault, open_room};
+use rh_room::{Pass, Room, RoomFault};
 use rh_samples::{CAVE, ONE_NODE, TWO_NODES};
 use rh_step::{Event, Pick};
 use rh_trail::Sim;
@@ -68,10 +69,18 @@ fn is_seen(rt: &impl Abort, alloc: Global, sim: &Sim) -> bool {
     shown.as_slice() == SEEN.as_bytes()
 }
 
+// Does a copy of the room's simulation show it?
+fn is_seen_in_copy(rt: &impl Abort, alloc: Global, room: &Room) -> bool {
+    let fork = room.fork(alloc).ok().expect(rt, "memory");
+    is_seen(rt, alloc, &fork)
+}
+
 // Does the room show it, and a copy of its simulation?
 fn shows(rt: &impl Abort, alloc: Global, room: &Room) {
-    let fork = room.fork(alloc).ok().expect(rt, "memory");
-    assert!(rt; is_seen(rt, alloc, &fork) && is_seen(rt, alloc, room.sim()));
+    assert!(rt; is_seen_in_copy(rt, alloc, room) && is_seen(rt, alloc, room.sim()));
+}
+
+fn has_served_two(rt: &impl Abort, room: &Room) {
     assert!(rt; room.log().len() == 5 && room.sessions() == 2);
 }
 
@@ -91,6 +100,7 @@ fn one_after_the_other(rt: &impl Abort, alloc: Global, open: &mut Open) {
     assert_eq!(rt; text.as_str(), TOLD);
     are_kept(rt, alloc, open.passes.as_slice());
     shows(rt, alloc, &open.room);
+    has_served_two(rt, &open.room);
 }
 
 #[test]
@@ -108,12 +118,19 @@ fn calls_at_home(rt: &impl Abort, alloc: Global, open: &mut Open, call: Call, wa
     assert_eq!(rt; text.as_str(), want);
 }
 
+// The pass of the only session of another room, which has called there.
+fn pass_from_elsewhere(rt: &impl Abort, alloc: Global) -> Pass {
+    let mut other = open_for(rt, alloc, CAVE, 1);
+    calls_at_home(rt, alloc, &mut other, Call::Undo, "0 1 at start\n");
+    other.passes.pop().expect(rt, "a pass")
+}
+
 // The first session of another room calls in this one.
-fn calls_abroad(rt: &impl Abort, alloc: Global, open: &mut Open, other: &mut Open) {
+fn calls_abroad(rt: &impl Abort, alloc: Global, room: &mut Room) {
+    let mut pass = pass_from_elsewhere(rt, alloc);
     let mut text = String::new(alloc);
-    let pass = other.passes.get_mut(0).expect(rt, "a pass");
-    let told = tell_served(&mut text, alloc, &mut open.room, pass, Call::Look);
-    assert!(rt; told.is_ok() && open.room.log().len() == 1);
+    let told = tell_served(&mut text, alloc, room, &mut pass, Call::Look);
+    assert!(rt; told.is_ok() && room.log().len() == 1);
     assert_eq!(rt; text.as_str(), "WrongRoom { place: 0 }\n");
 }
 
@@ -122,15 +139,18 @@ fn calls_abroad(rt: &impl Abort, alloc: Global, open: &mut Open, other: &mut Ope
 fn a_pass_of_another_room_is_refused(rt: HostRuntime) {
     let mut open = open_for(&rt, rt.alloc(), CAVE, 2);
     calls_at_home(&rt, rt.alloc(), &mut open, Call::Step(BOOT), "0 1 done 0\n");
-    let mut other = open_for(&rt, rt.alloc(), CAVE, 1);
-    calls_at_home(&rt, rt.alloc(), &mut other, Call::Undo, "0 1 at start\n");
-    calls_abroad(&rt, rt.alloc(), &mut open, &mut other);
+    calls_abroad(&rt, rt.alloc(), &mut open.room);
 }
 
 fn is_no_room(rt: &impl Abort, alloc: Global, sessions: u8) {
-    let cluster = cluster_of(rt, alloc, ONE_NODE);
-    let fault = open_room(alloc, cluster, Pick::First, sessions).err();
+    let fault = open_on(alloc, cluster_of(rt, alloc, ONE_NODE), sessions).err();
     assert!(rt; fault == Some(RoomFault::SessionCount));
+}
+
+// A room of eight sessions, with their passes, the eighth of which is new.
+fn are_eight(rt: &impl Abort, room: &Room, passes: &[Pass]) {
+    assert!(rt; room.sessions() == 8 && passes.len() == 8);
+    assert!(rt; passes[7].session() == 8 && passes[7].receipts().is_empty());
 }
 
 #[test]
@@ -138,21 +158,29 @@ fn a_room_has_1_to_8_sessions(rt: HostRuntime) {
     is_no_room(&rt, rt.alloc(), 0);
     is_no_room(&rt, rt.alloc(), 9);
     let open = open_for(&rt, rt.alloc(), ONE_NODE, 8);
-    assert!(rt; open.room.sessions() == 8 && open.passes.len() == 8);
-    assert!(rt; open.passes[7].session() == 8 && open.passes[7].receipts().is_empty());
+    are_eight(&rt, &open.room, open.passes.as_slice());
+}
+
+// A call of a session, of which there is nothing to undo, is served.
+fn is_served(rt: &impl Abort, alloc: Global, room: &mut Room, pass: &mut Pass) {
+    let receipt = served(alloc, room, pass, Call::Undo)
+        .ok()
+        .expect(rt, "a receipt");
+    assert!(rt; receipt.reply.same(&Reply::AtStart) && receipt.call == Call::Undo);
+}
+
+// Not one more call is served.
+fn is_full(rt: &impl Abort, alloc: Global, room: &mut Room, pass: &mut Pass) {
+    let fault = served(alloc, room, pass, Call::Undo).err();
+    assert!(rt; fault == Some(RoomFault::LogFull));
+    assert!(rt; room.log().len() == 65_535 && pass.receipts().len() == 65_535);
 }
 
 fn fill(rt: &impl Abort, alloc: Global, room: &mut Room, pass: &mut Pass) {
     for _ in 0..Room::LOG_LIMIT {
-        let receipt = room
-            .serve(alloc, pass, Call::Undo)
-            .ok()
-            .expect(rt, "a receipt");
-        assert!(rt; receipt.reply.same(&Reply::AtStart) && receipt.call == Call::Undo);
+        is_served(rt, alloc, room, pass);
     }
-    let fault = room.serve(alloc, pass, Call::Undo).err();
-    assert!(rt; fault == Some(RoomFault::LogFull));
-    assert!(rt; room.log().len() == 65_535 && pass.receipts().len() == 65_535);
+    is_full(rt, alloc, room, pass);
 }
 
 #[test]
@@ -170,17 +198,22 @@ fn a_pass_is_missing(rt: HostRuntime) {
     assert_eq!(rt; text.as_str(), "MissingPass\n");
 }
 
-// The second pass goes, and that of another room's first session comes in its place.
-fn take_from(rt: &impl Abort, open: &mut Open, other: &mut Open) {
-    let foreign = other.passes.pop().expect(rt, "a pass");
-    assert!(rt; open.passes.pop().is_some() && open.passes.push(foreign).is_ok());
+// The pass of the only session of another room.
+fn only_pass_of_another(rt: &impl Abort, alloc: Global) -> Pass {
+    let mut other = open_for(rt, alloc, ONE_NODE, 1);
+    other.passes.pop().expect(rt, "a pass")
+}
+
+// The last pass goes, and that of another room's first session comes in its place.
+fn take_from_another(rt: &impl Abort, alloc: Global, passes: &mut Vec<Pass>) {
+    let foreign = only_pass_of_another(rt, alloc);
+    assert!(rt; passes.pop().is_some() && passes.push(foreign).is_ok());
 }
 
 #[test]
 fn a_session_has_two_passes(rt: HostRuntime) {
     let mut open = open_for(&rt, rt.alloc(), ONE_NODE, 2);
-    let mut other = open_for(&rt, rt.alloc(), ONE_NODE, 1);
-    take_from(&rt, &mut open, &mut other);
+    take_from_another(&rt, rt.alloc(), &mut open.passes);
     let text = tell_how_it_closes(&rt, rt.alloc(), open, ONE_NODE, Pick::First);
     assert_eq!(rt; text.as_str(), "MissingPass\n");
 }
@@ -188,9 +221,8 @@ fn a_session_has_two_passes(rt: HostRuntime) {
 #[test]
 fn a_pass_was_told_less(rt: HostRuntime) {
     let mut open = open_for(&rt, rt.alloc(), ONE_NODE, 1);
-    let mut other = open_for(&rt, rt.alloc(), ONE_NODE, 1);
     calls_at_home(&rt, rt.alloc(), &mut open, Call::Undo, "0 1 at start\n");
-    take_from(&rt, &mut open, &mut other);
+    take_from_another(&rt, rt.alloc(), &mut open.passes);
     let text = tell_how_it_closes(&rt, rt.alloc(), open, ONE_NODE, Pick::First);
     assert_eq!(rt; text.as_str(), "Disagree { session: 1, place: 0 }\n");
 }

@@ -2,10 +2,12 @@
 
 use crate::rooms::{LOG, are_kept, schedule};
 use crate::told::{Open, open_for, tell_how_it_closes};
+use rh_calls::Call;
 use rh_room::{Pass, Shared};
 use rh_samples::CAVE;
 use rh_step::Pick;
 use std::alloc::Global;
+use std::process::Abort;
 use std::sync::{Condvar, Mutex, Wait};
 use std::thread;
 use std::thread::Threads;
@@ -28,12 +30,17 @@ fn in_turns<R: Wait>(rt: &R, alloc: Global, shared: &Shared, turns: &Turns, give
                 let made = turns.made.lock(rt);
                 let _waited = turns.passed.wait_while(rt, made, |made| *made != turn);
             }
-            let _ = shared.lock(rt).serve(alloc, &mut pass, call);
+            call_in(rt, alloc, shared, &mut pass, call);
             *turns.made.lock(rt) = turn + 1;
             turns.passed.notify_all();
         }
     }
     pass
+}
+
+// Makes a call in the room that is shared.
+fn call_in<R: Wait>(rt: &R, alloc: Global, shared: &Shared, pass: &mut Pass, call: Call) {
+    let _ = shared.lock(rt).serve(alloc, pass, call);
 }
 
 // The passes, when both sessions have made their calls, each in a thread of its own.
@@ -54,20 +61,35 @@ fn in_threads<R: Threads + Wait + Sync>(
 fn shared_by_threads<R: Threads + Wait + Sync>(rt: &R, alloc: Global, open: Open) -> Option<Open> {
     let Open { room, passes } = open;
     let shared = Mutex::new(room);
+    let passes = from_first_turn(rt, alloc, &shared, passes)?;
+    let room = shared.into_inner();
+    Some(Open { room, passes })
+}
+
+// The passes, when the sessions have made their calls from the first turn on.
+fn from_first_turn<R: Threads + Wait + Sync>(
+    rt: &R,
+    alloc: Global,
+    shared: &Shared,
+    passes: Vec<Pass>,
+) -> Option<Vec<Pass>> {
     let turns = Turns {
         made: Mutex::new(0),
         passed: Condvar::new(),
     };
-    let passes = in_threads(rt, alloc, &shared, &turns, passes)?;
-    let room = shared.into_inner();
-    Some(Open { room, passes })
+    in_threads(rt, alloc, shared, &turns, passes)
+}
+
+// The passes keep what they were told, and the room closes.
+fn have_called(rt: &impl Abort, alloc: Global, open: Open) {
+    are_kept(rt, alloc, open.passes.as_slice());
+    let text = tell_how_it_closes(rt, alloc, open, CAVE, Pick::First);
+    assert_eq!(rt; text.as_str(), LOG);
 }
 
 #[test]
 fn two_sessions_in_threads(rt: HostRuntime) {
     let open = open_for(&rt, rt.alloc(), CAVE, 2);
     let open = shared_by_threads(&rt, rt.alloc(), open).expect(&rt, "memory");
-    are_kept(&rt, rt.alloc(), open.passes.as_slice());
-    let text = tell_how_it_closes(&rt, rt.alloc(), open, CAVE, Pick::First);
-    assert_eq!(rt; text.as_str(), LOG);
+    have_called(&rt, rt.alloc(), open);
 }
