@@ -1,17 +1,17 @@
 """Kinds of commands of which laws prove, under more conditions than are asked here, that both sets of rules answer by the same text
-(rh_agreement_calls, rh_agreement_takeovers, rh_agreement_permits, rh_agreement_grants, rh_agreement_failovers, rh_agreement_boots). Asked
-is what two reports before them tell. The laws are of where both are at rest and no node is on its way to its end, which no report tells;
-here it is asked that nothing hangs, and of a distributed application that each node waits for all others, so that those that are up see
-one another.
+(rh_agreement_calls, rh_agreement_takeovers, rh_agreement_permits, rh_agreement_grants, rh_agreement_failovers, rh_agreement_ticks,
+rh_agreement_boots), or by the same lines in some order (rh_agreement_colds). Asked is what two reports before them tell. The laws are of
+where both are at rest and no node is on its way to its end, which no report tells; here it is asked that nothing hangs, and of a
+distributed application that each node waits for all others, so that those that are up see one another.
 
 Of an application that isn't distributed: where it runs by both reports a stop, a forbid, and an end that keeps its node by both restart
-types; and a start, where it is started by neither, forbidden by neither, all that it needs runs there by both, and nothing that waits
-there needs it. Of a distributed one: a takeover where it waits by both, and runs by both at the same other node, if it isn't forbidden
-and what it needs runs there by both, and nothing that waits there needs it; a permission where no node waits and it isn't lost: a
-forbid where it doesn't run, and a permit where it runs; and a permit where it waits and is forbidden, by which it starts or, in the second
-profile, is called back to the first node that can run it. A tick before which one distributed application is lost by both reports, and in
-which it alone starts. And a boot by which nodes wait on, where each other one that isn't alive has never booted: so none has seen one that
-is gone.
+types; and a start, where it is started by neither, forbidden by neither, all that it needs runs there by both, and nothing that waits there
+needs it. Of a distributed one: a takeover where it waits by both, and runs by both at the same other node, if it isn't forbidden and what
+it needs runs there by both, and nothing that waits there needs it; a permission where no node waits and it isn't lost: a forbid where it
+doesn't run, and a permit where it runs; and a permit where it waits and is forbidden, by which it starts or, in the second profile, is
+called back to the first node that can run it. A tick before which one distributed application is lost by both reports, and in which it
+alone starts. A boot by which nodes wait on, where each other one that isn't alive has never booted: so none has seen one that is gone. And
+the last boot of a cold start, where each node waits for all others, all others wait and have booted once, and boot lists are in order.
 """
 from collections.abc import Callable
 from typing import Optional
@@ -19,9 +19,12 @@ from typing import Optional
 from live_conditions import State, Step, lacks_lists
 
 from rehearse_tools.inputs import words_of
+from rehearse_tools.otp25.cluster import ClusterFile
 
 # Lines of a report that tell that something hangs, or hasn't ended.
 HANGS = ("starting", "blocked", "open")
+# The kind of which both answers have the same lines, in some order.
+LAST_BOOT = "last boot of a cold start"
 States = tuple[State, State]
 
 
@@ -149,13 +152,39 @@ def is_waiting_boot(step: Step, _: States) -> bool:
     return not any(mode == "down" and step.before.boots[node] for node, mode in step.before.mode.items() if node != step.words[1])
 
 
+def boots_in_order(cluster: ClusterFile, forbidden: dict[str, list[str]]) -> bool:
+    """All nodes boot the same distributed applications in one order. What an application needs of the cluster's stands before it and isn't
+    distributed (names of the platform aren't asked for). What isn't distributed isn't forbidden where it is booted; each distributed one
+    that is booted may run at some node. No list has a tuple."""
+    lists = {name: [app for app, _ in node.boot] for name, node in cluster.nodes.items()}
+    spread = [[app for app in apps if app in cluster.entries] for apps in lists.values()]
+    needs = [(apps[:place], need) for apps in lists.values() for place, app in enumerate(apps) for need in cluster.apps[app].needs]
+    is_late = any(need in cluster.apps and (need in cluster.entries or need not in before) for before, need in needs)
+    is_barred = any(app not in cluster.entries and app in forbidden[node] for node, apps in lists.items() for app in apps)
+    is_nowhere = any(all(app in apps for apps in forbidden.values()) for app in spread[0])
+    has_tuple = any(isinstance(group, tuple) for entry in cluster.entries.values() for group in entry.groups)
+    return all(apps == spread[0] for apps in spread) and not (is_late or is_barred or is_nowhere or has_tuple)
+
+
+def is_last_boot(step: Step, _: States) -> bool:
+    """Each node waits for all others. The last of two or more boots for the first time; all others have booted once, and wait. All have the
+    same `distributed`, and boot in order."""
+    if step.word != "boot" or lacks_lists(step.cluster):
+        return False
+    begun = {node: ("down", 0) if node == step.words[1] else ("waiting", 1) for node in step.cluster.nodes}
+    is_such = len(begun) > 1 and all((step.before.mode[node], step.before.boots[node]) == stands for node, stands in begun.items())
+    files = [node.entries for node in step.cluster.nodes.values()]
+    is_one = files[0] is not None and all(entries == files[0] for entries in files)
+    return is_such and is_one and boots_in_order(step.cluster, step.before.forbidden)
+
+
 # ---- The kinds
 
 # Each kind, and how many of it have to be among the random rehearsals.
 KINDS: dict[str, tuple[Callable[[Step, States], bool], int]] = {
     "stop": (is_stop, 40), "exit": (is_exit, 10), "forbid": (is_forbid, 60), "start": (is_start, 20), "takeover": (is_takeover, 100),
     "permission": (is_permission, 150), "permit that starts": (is_grant, 3), "permit that calls back": (is_call_back, 1),
-    "failover": (is_failover, 15), "boot that waits": (is_waiting_boot, 3_000)}
+    "failover": (is_failover, 15), "boot that waits": (is_waiting_boot, 3_000), LAST_BOOT: (is_last_boot, 40)}
 
 
 def kind_of(step: Step, live: list[str], state: State) -> Optional[str]:
@@ -163,3 +192,10 @@ def kind_of(step: Step, live: list[str], state: State) -> Optional[str]:
     if any(words_of(line)[0] in HANGS for line in live):
         return None
     return next((kind for kind, (is_such, _) in KINDS.items() if is_such(step, (step.before, state))), None)
+
+
+def are_same(kind: str, manual: list[str], live: list[str]) -> bool:
+    """Whether two answers to a command of a kind are what the laws say: the same text, or the same lines in some order behind the first."""
+    if kind == LAST_BOOT:
+        return (manual[0], sorted(manual[1:])) == (live[0], sorted(live[1:]))
+    return manual == live

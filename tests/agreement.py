@@ -12,8 +12,8 @@ hint, some of the random rehearsals part within all others; each other condition
 breaks it alone, and parts at its last command. The careful rehearsals of live_conditions.py, which keep to other conditions, may part
 where lint warns of a step alone.
 
-Of some kinds of commands less is asked (agreed_calls.py): it is proved that both answer them by the same text, under more conditions than
-are asked there.
+Of some kinds of commands less is asked (agreed_calls.py): it is proved that both answer them by the same text, or the same lines, under more
+conditions than are asked there.
 """
 import os
 import sys
@@ -31,7 +31,7 @@ from live_conditions import (Condition, State, Step, careful, has_other_platform
                              lacks_lists, may_be_lost_together, needs_a_distributed_one, state_of)
 from live_rules import split_answers
 from random_live import CAREFUL, KINDS, Rehearsal, rehearsal
-from random_spread import loss, loss_of_several, moving, returning
+from random_spread import gathering, loss, loss_of_several, moving, returning
 from support import COMMANDS, TOP, fault_of, run
 
 sys.path.append(os.path.join(TOP, "companions"))
@@ -43,10 +43,11 @@ from rehearse_tools.program import Program  # noqa: E402
 # Seeds at which nobody looked while the conditions were looked for.
 FIRST, COUNT, AT_ONCE = 40_000, 2_000, 100
 CAREFUL_COUNT, CAREFUL_AT_ONCE = 80, 10
-# Seeds of rehearsals in which distributed applications are lost, permitted, forbidden and taken over (random_spread.py), and of which kinds
-# there have to be so many among them.
+# Seeds of rehearsals in which nodes gather, and distributed applications are lost, permitted, forbidden and taken over (random_spread.py),
+# and of which kinds there have to be so many among them.
 SPREAD_FIRST, SPREAD_COUNT, SPREAD_AT_ONCE = 45_000, 400, 50
-LEAST_SPREAD = {"failover": 200, "permit that starts": 50, "permit that calls back": 20, "takeover": 100, "permission": 100}
+LEAST_SPREAD = {"failover": 200, "permit that starts": 50, "permit that calls back": 20, "takeover": 100, "permission": 100,
+                agreed_calls.LAST_BOOT: 1_000}
 # At least such shares of the sane rehearsals, and of their commands, have to be within the conditions.
 LEAST_REHEARSALS, LEAST_COMMANDS = 0.1, 0.2
 PARTING = os.path.join(TOP, "tests", "parting")
@@ -188,7 +189,7 @@ WITHIN = (*SILENT, *(condition.name for condition in CONDITIONS))
 @dataclass(frozen=True)
 class Judged:
     """A rehearsal: the words of its commands, what each of them breaks, and the place of the first that isn't answered alike. Of those up
-    to there that are of a kind of agreed_calls.py, the kinds, and whether both texts are the same."""
+    to there that are of a kind of agreed_calls.py, the kinds, and whether both answers are what `agreed_calls.are_same` asks."""
     name: str
     kind: str
     commands: list[str]
@@ -240,7 +241,8 @@ def judged(program: str, one: Rehearsal) -> Judged:
                   if not are_alike(command, manual[2 * place + 1:2 * place + 3], live[2 * place + 1:2 * place + 3])), None)
     common = len(commands) if first is None else first + 1
     kinds = [agreed_calls.kind_of(step, live[2 * place], state_of(live[2 * place])) for place, step in enumerate(steps[:common])]
-    proved = [(kind, manual[2 * place + 1] == live[2 * place + 1]) for place, kind in enumerate(kinds) if kind is not None]
+    proved = [(kind, agreed_calls.are_same(kind, manual[2 * place + 1], live[2 * place + 1]))
+              for place, kind in enumerate(kinds) if kind is not None]
     return Judged(str(one.seed), one.kind, commands, broken, first, proved)
 
 
@@ -378,8 +380,8 @@ def small_ones(program: str) -> Iterator[Test]:
 
 
 def spread_ones(program: str, seeds: range) -> Iterator[Test]:
-    """Rehearsals in which distributed applications are lost and move: what is of an agreed kind is answered alike."""
-    found = [judged(program, make(seed)) for seed in seeds for make in (loss, loss_of_several, moving, returning)]
+    """Rehearsals in which nodes gather, and distributed applications are lost and move: what is of an agreed kind is answered alike."""
+    found = [judged(program, make(seed)) for seed in seeds for make in (gathering, loss, loss_of_several, moving, returning)]
     for one in found:
         other = next((kind for kind, is_alike in one.proved if not is_alike), None)
         yield f"both rules alike, agreed kinds, cluster {one.name}", None if other is None else f"{other} is answered otherwise"
