@@ -10,5 +10,6 @@ mod Lines
 mod Seen
 mod ColdAlike
 pub mod Calls
+pub mod RowsStrangers
 pub mod RowsFiles
 mod Rows

@@ -97,7 +97,9 @@ module _ (lives : LastBootsComeUp) (sim : SimView) (l : LiveSimView) (n : Node) 
       short = starts.can.short;
       apps = starts.can.apps;
       distributed = starts.can.distributed;
+      strangers = starts.can.strangers;
       at = starts.can.at;
+      runners = starts.can.runners;
       first = starts.can.first;
     },
     refl,

@@ -1,7 +1,7 @@
--- Worked rows: of two nodes that wait for each other the first begins, and then the second, the last one. So the law is about something.
--- Both tell the same lines, but not in the same order.
+-- Worked rows: of two nodes that wait for each other the first begins, and then the second, the last one. The first doesn't boot one of the
+-- applications. So the law is about something. Both tell the same lines, but not in the same order.
 use Rattle.std.specs.Prelude.{All}
-use Rattle.std.proofs.Common.{◌≡◌, ◌≢◌, ◌<◌, ◌-◌, ◌^◌, ◌==◌, ◌||◌, nat_lt, ℕ, zero, suc, true, false, not, List, [], ◌∷◌, length, Some, None, refl, sym, ap, subst, ◌∙◌, arith}
+use Rattle.std.proofs.Common.{◌≡◌, ◌≢◌, ◌<◌, ◌≤◌, ◌-◌, ◌^◌, ◌==◌, ◌||◌, nat_lt, ℕ, zero, suc, true, false, not, List, [], ◌∷◌, filter, length, Some, None, refl, sym, ap, subst, ◌∙◌, arith}
 use Rattle.std.proofs.lemmas.Bool.{false≢true, ne_eqb, ltb-true, false_from_ne_true}
 use Rattle.std.proofs.lemmas.List.Elements.{All-nil, All-cons}
 use Rattle.std.proofs.lemmas.Option.{none-some}
@@ -30,7 +30,7 @@ use Rattle.rh_calls.specs.declared.call.Call.TheVariants as call
 use Rattle.rh_step.specs.Runs.{step}
 use Rattle.rh_step_laws.specs.Laws.{boots}
 use Rattle.rh_start_laws.specs.Starts.{start_told}
-use Rattle.rh_start_laws.proofs.RowsCluster.{p, q, log, web, shop, within, in_order}
+use Rattle.rh_start_laws.proofs.RowsCluster.{p, q, log, web}
 use Rattle.rh_trail.specs.Lone.{Served, served, opened, with_event, trail_limit}
 use Rattle.rh_trail.specs.SimView.{SimView}
 use Rattle.rh_otp_model.specs.declared.process.StartType.TheVariants.{Normal}
@@ -78,9 +78,10 @@ use Rattle.rh_otp_system.specs.Resting.{rested as system_rested, forgotten as sy
 use Rattle.rh_otp_system.specs.Sending.{told as system_told, after as system_after}
 use Rattle.rh_otp_system.specs.Working.{take_lock as system_take_lock, gone as system_gone, handled as system_handled, work as system_work, mailed as system_mailed}
 use Rattle.rh_otp_laws.specs.Acting.{IsThere, new}
-use Rattle.rh_otp_together.specs.Together.{IsBefore, InOrder, distributed_of}
+use Rattle.rh_otp_together.specs.Together.{IsBefore, InOrder, distributed_of, boots_at, strangers_of}
+use Rattle.rh_otp_together.proofs.Sharing.{few_left_to_one}
 use Rattle.rh_otp_colds.specs.Colds.{is_there, IsColdStart}
-use Rattle.rh_otp_colds.specs.Wholes.{first_runner, CanStartTogether, IsLeft}
+use Rattle.rh_otp_colds.specs.Wholes.{may_start, first_runner, CanStartTogether, IsLeft}
 use Rattle.rh_otp_colds.proofs.Boot.{colds_go_on}
 use Rattle.rh_otp_colds.proofs.Meanwhile.{still_cold}
 use Rattle.rh_agreement.specs.Telling.{GoTogether}
@@ -94,21 +95,22 @@ use Rattle.rh_agreement_boots.proofs.Alone.{first_alike}
 use Rattle.rh_agreement_colds.specs.Colds.{IsAnsweredInSomeOrder, StartsCold}
 use Rattle.rh_agreement_colds.proofs.Calls.{cold_alike}
 use Rattle.rh_agreement_colds.proofs.RowsFiles.{file, files, fresh, is_new, names, later_of}
+use Rattle.rh_agreement_colds.proofs.RowsStrangers.{db, store, within, runner_of, in_order}
 
 -- ---- the first begins to wait
 
 abbrev sim : SimView
-sim = opened shop First
+sim = opened store First
 
 abbrev live : LiveSimView
-live = live_opened shop files FirstComes
+live = live_opened store files FirstComes
 
 together : GoTogether sim live
-together = begin_together shop First files FirstComes
+together = begin_together store First files FirstComes
 
 always : AreAlwaysAtRest sim live
 unfolding system_forgotten
-always = begin_at_rest shop First files FirstComes within (λ n. later_of n.0)
+always = begin_at_rest store First files FirstComes within (λ n. later_of n.0)
 
 room : HasRoom sim live
 room = record { steps = omega arith; calls = omega arith }
@@ -141,13 +143,13 @@ abbrev sim_waits : SimView
 sim_waits = with_event sim (event.Boot p)
 
 abbrev state_then : StateView
-state_then = record (first shop) { modes = mode.Waiting ∷ mode.Down ∷ []; incarnations = 1 ∷ 0 ∷ [] }
+state_then = record (first store) { modes = mode.Waiting ∷ mode.Down ∷ []; incarnations = 1 ∷ 0 ∷ [] }
 
-state_is : step First (first shop) (event.Boot p) ≡ state_then
+state_is : step First (first store) (event.Boot p) ≡ state_then
 unfolding step booted come_up mark_all with_mark nodes_of apps_of all_alive is_ready come_up_if_ready ready_come_up is_operational deps_run best candidates can_start local_moves placements calls_away takeovers next_moves moved_by all_moved followed next configured
 state_is = refl
 
-not_refused : refused (first shop) (event.Boot p) ≡ None
+not_refused : refused (first store) (event.Boot p) ≡ None
 unfolding refused
 not_refused = refl
 
@@ -157,7 +159,8 @@ sim_is = ap (λ (v : Served). v.sim) (manual sim (event.Boot p) not_refused (ome
 none_stands : (k : ℕ) → standing_of state_then (app_numbered k) ≡ standing.Quiet
 none_stands zero = refl
 none_stands (suc zero) = refl
-none_stands (suc (suc k)) = refl
+none_stands (suc (suc zero)) = refl
+none_stands (suc (suc (suc k))) = refl
 
 -- ---- and on live nodes
 
@@ -165,11 +168,11 @@ abbrev live_then : LiveSimView
 live_then = made_by (call.Step (event.Boot p)) live
 
 abbrev waiting_node : LiveView
-waiting_node = begun shop file.own p never_begun
+waiting_node = begun store file.own p never_begun
 
 abbrev last : SystemView
 last = record {
-  cluster = shop;
+  cluster = store;
   files = files;
   nodes = record {
     base = cell.Node never_begun ∷ cell.Node never_begun ∷ cell.Net (net_in live) ∷ [];
@@ -265,10 +268,10 @@ nodes_so (suc (suc zero)) = refl
 nodes_so (suc (suc (suc k))) =
     sym (false_from_ne_true _ (λ is. (let less : suc (suc (suc k)) < 2 = ltb-true (suc (suc (suc k))) 2 is in omega (arith, less))))
 
-ordered : (m : Node) → m.0 < 2 → IsThere m now → InOrder now m [] (boot_of shop m)
+ordered : (m : Node) → m.0 < 2 → IsThere m now → InOrder now m [] (boot_of store m)
 unfolding system_forgotten
 ordered m less there =
-    of_two (λ (n : Node). InOrder now n [] (boot_of shop n)) (
+    of_two (λ (n : Node). InOrder now n [] (boot_of store n)) (
       refl,
       All-nil (IsBefore now p []),
       λ out. refl,
@@ -277,12 +280,23 @@ ordered m less there =
       refl,
       All-nil (IsBefore now q []),
       λ out. refl,
-      (refl, All-cons (IsBefore now q (log ∷ [])) (Listed log) [] refl (All-nil (IsBefore now q (log ∷ []))), λ out. refl, tt),
+      (
+        refl,
+        All-cons (IsBefore now q (log ∷ [])) (Listed log) [] refl (All-nil (IsBefore now q (log ∷ []))),
+        λ out. refl,
+        (refl, All-nil (IsBefore now q (web ∷ log ∷ [])), λ out. refl, tt),
+      ),
     )
     m.0 there
 
-abbrev IsAtFirst : Node → App → Type 0
-IsAtFirst m a = first_runner now m a ≡ Some p
+abbrev RunsThere : App → Type 0
+RunsThere a = (boots_at now (runner_of a) a ≡ true) × (may_start now (runner_of a) a ≡ true)
+
+abbrev IsFirst : Node → App → Type 0
+IsFirst m a = boots_at now m a ≡ true → first_runner now m a ≡ Some (runner_of a)
+
+both_apps : (P : App → Type 0) → P web → P db → All P (web ∷ db ∷ [])
+both_apps P one two = All-cons P web (db ∷ []) one (All-cons P db [] two (All-nil P))
 
 can : CanStartTogether now
 unfolding system_forgotten
@@ -290,14 +304,23 @@ can = record {
   nodes = λ m. nodes_so m.0;
   has_dist = λ m there. of_two (λ (n : Node). has_dist_at now n ≡ true) refl refl m.0 there;
   in_order = λ m there. ordered m (of_two (λ (n : Node). n.0 < 2) (omega arith) (omega arith) m.0 there) there;
-  short = λ m there. of_two (λ (n : Node). length (boot_of shop n) < 2 ^ 64 - 1) (omega arith) (omega arith) m.0 there;
-  apps = web ∷ [];
-  distributed = λ m there. of_two (λ (n : Node). distributed_of (own_at now n) (boot_of shop n) ≡ web ∷ []) refl refl m.0 there;
-  at = λ a. p;
+  short = λ m there. of_two (λ (n : Node). length (boot_of store n) < 2 ^ 64 - 1) (omega arith) (omega arith) m.0 there;
+  apps = web ∷ db ∷ [];
+  distributed = λ m there.
+      of_two (λ (n : Node). distributed_of (own_at now n) (boot_of store n) ≡ filter (boots_at now n) (web ∷ db ∷ [])) refl refl m.0 there;
+  strangers = λ m there. few_left_to_one runner_of (strangers_of now m (web ∷ db ∷ []))
+      (of_two (λ (n : Node). length (strangers_of now n (web ∷ db ∷ [])) ≤ 1) (omega arith) (omega arith) m.0 there);
+  at = runner_of;
+  runners = both_apps RunsThere (refl, refl) (refl, refl);
   first = λ m there.
-      of_two (λ (n : Node). All (IsAtFirst n) (web ∷ [])) (All-cons (IsAtFirst p) web [] refl (All-nil (IsAtFirst p)))
-      (All-cons (IsAtFirst q) web [] refl (All-nil (IsAtFirst q))) m.0 there;
+      of_two (λ (n : Node). All (IsFirst n) (web ∷ db ∷ [])) (both_apps (IsFirst p) (λ boots. refl) (λ boots. refl))
+      (both_apps (IsFirst q) (λ boots. refl) (λ boots. refl)) m.0 there;
 }
+
+-- the first node doesn't boot db
+lacks_db : strangers_of now p can.apps ≡ db ∷ []
+unfolding can system_forgotten
+lacks_db = refl
 
 left : IsLeft q now
 unfolding system_forgotten
@@ -310,23 +333,31 @@ left = record {
   alive = refl;
 }
 
--- the node boots two applications, and no other one
-booted_are : (k : ℕ) → (suc (suc k) == 0 || (suc (suc k) == 1 || false)) ≡ true → ⊥
-booted_are k is =
+-- the first node boots two applications, and no other one; and the second one three
+two_booted : (k : ℕ) → (suc (suc k) == 0 || (suc (suc k) == 1 || false)) ≡ true → ⊥
+two_booted k is =
     false≢true
     (sym (λ i. ne_eqb (suc (suc k)) 0 (λ same. omega (arith, same)) i || (ne_eqb (suc (suc k)) 1 (λ same. omega (arith, same)) i || false))
     ∙ is)
 
+three_booted : (k : ℕ) → (suc (suc (suc k)) == 0 || (suc (suc (suc k)) == 1 || (suc (suc (suc k)) == 2 || false))) ≡ true → ⊥
+three_booted k is =
+    false≢true
+    (sym (λ i. ne_eqb (suc (suc (suc k))) 0 (λ same. omega (arith, same)) i || (ne_eqb (suc (suc (suc k))) 1 (λ same. omega (arith, same)) i
+    || (ne_eqb (suc (suc (suc k))) 2 (λ same. omega (arith, same)) i || false)))
+    ∙ is)
+
 -- the files are the same on both sides
-own_so : (j k : ℕ) → j < 2 → boots shop (numbered j) (app_numbered k) ≡ true
-    → controls (own_at now (numbered j)) (app_numbered k) ≡ not (is_local shop (app_numbered k))
+own_so : (j k : ℕ) → j < 2 → boots store (numbered j) (app_numbered k) ≡ true
+    → controls (own_at now (numbered j)) (app_numbered k) ≡ not (is_local store (app_numbered k))
 unfolding system_forgotten
 own_so zero zero less is = refl
 own_so zero (suc zero) less is = refl
-own_so zero (suc (suc k)) less is = absurd (booted_are k is)
+own_so zero (suc (suc k)) less is = absurd (two_booted k is)
 own_so (suc zero) zero less is = refl
 own_so (suc zero) (suc zero) less is = refl
-own_so (suc zero) (suc (suc k)) less is = absurd (booted_are k is)
+own_so (suc zero) (suc (suc zero)) less is = refl
+own_so (suc zero) (suc (suc (suc k))) less is = absurd (three_booted k is)
 own_so (suc (suc j)) k less is = absurd (omega (arith, less))
 
 at_so : (a : App) → (in_order.at a).0 ≡ (can.at a).0
@@ -368,15 +399,17 @@ row = cold_alike sim_then live_then q first_row.1 room_then first_row.2 starts_t
 -- ---- and the order of lines isn't the same
 
 -- By the manual's rules nodes come up in node order.
-manual_row : start_told shop in_order.at ≡ notice.Up p ∷ notice.Up q ∷ notice.Started log p kind.Normal None
-    ∷ notice.Started log q kind.Normal None ∷ notice.Started web p kind.Normal None ∷ notice.Waits web q ∷ []
+manual_row : start_told store in_order.at ≡ notice.Up p ∷ notice.Up q ∷ notice.Started log p kind.Normal None
+    ∷ notice.Started log q kind.Normal None ∷ notice.Started web p kind.Normal None ∷ notice.Started db q kind.Normal None
+    ∷ notice.Waits web q ∷ []
 unfolding in_order nodes_of apps_of
 manual_row = refl
 
 -- On live nodes that take messages in the order in which they come the one that began last is up first.
 lines_row : outcome_with (net_in live_waits) (event.Boot q) live_waits ≡ outcome.Done (record {
   answer = Told verdict.Done;
-  lines = line.Up q ∷ line.Up p ∷ line.Started log q Normal ∷ line.Started log p Normal ∷ line.Started web p Normal ∷ line.Waits web q ∷ [];
+  lines = line.Up q ∷ line.Up p ∷ line.Started log q Normal ∷ line.Started log p Normal ∷ line.Started web p Normal
+      ∷ line.Started db q Normal ∷ line.Waits web q ∷ [];
 })
 unfolding is_acted acted is_quiet_at_once acted_at_once controller_start controller_stop controller_permit controller_top_ends controller_do_start controller_change controller_received controller_spawn_starter controller_reply_to_requester controller_has_started controller_start_reply dist_finish dist_runs_elsewhere dist_take_over dist_permit dist_get_nodes dist_start_here dist_is_to_start dist_find_start_node dist_start_distributed dist_start_appl dist_check_waiting dist_node_down dist_introduced_to dist_handle_next dist_del_t_reqs dist_run dist_answer_ends dist_not_run dist_stopped dist_new_node dist_answer_permits dist_app_started dist_app_stopped dist_weight_told dist_restart dist_new_permission net_to_connect node_controlled_by node_terminated_by node_handled_by node_introduced_by system_lock_call system_wait_for_lock system_behind_sync system_go_on_call system_call_received system_connect system_delivered system_slowed system_waited_for system_booted system_called system_fired_next system_ticked system_is_ticked system_down_told system_taken_down system_ended system_stopped system_join system_has_seen system_boot_next system_made system_rested system_forgotten system_told system_after system_take_lock system_gone system_handled system_work system_mailed
 lines_row = refl

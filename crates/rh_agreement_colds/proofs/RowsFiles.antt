@@ -1,4 +1,5 @@
--- The own files of the two nodes of a cluster, each of which waits for the other one: where neither has begun it is a cold start.
+-- The own files of the two nodes of a cluster, each of which waits for the other one: where neither has begun it is a cold start. Both have
+-- the same `distributed`, though the first node doesn't boot one of the applications.
 use Rattle.std.specs.Prelude.{All}
 use Rattle.std.proofs.Common.{◌≡◌, ◌<◌, ◌+◌, ◌==◌, ◌&&◌, ◌||◌, ℕ, zero, suc, Bool, true, false, not, List, [], ◌∷◌, refl, sym, ap, ◌∙◌, arith}
 use Rattle.std.proofs.lemmas.Bool.{ne_eqb}
@@ -6,7 +7,7 @@ use Rattle.std.proofs.lemmas.List.Elements.{All-nil, All-cons, All-head, All-tai
 use Rattle.std.proofs.lemmas.Option.{none-some}
 use Rattle.rh_model.specs.ClusterView.{is_in, mandatory_of, optional_of}
 use Rattle.rh_model.specs.declared.node.Node.{Node}
-use Rattle.rh_start_laws.proofs.RowsCluster.{p, q, web, shop}
+use Rattle.rh_start_laws.proofs.RowsCluster.{p, q, web}
 use Rattle.rh_otp_model.specs.declared.wait.OwnFile.{OwnFile}
 use Rattle.rh_otp_model.specs.declared.wait.Wait.TheVariants as wait
 use Rattle.rh_otp_model.specs.Own.{EntryView}
@@ -17,6 +18,7 @@ use Rattle.rh_otp_laws.specs.Acting.{IsThere, IsNew}
 use Rattle.rh_otp_waits.specs.Waits.{HasItWait}
 use Rattle.rh_otp_gathers.specs.Gathers.{one_if}
 use Rattle.rh_otp_colds.specs.Colds.{is_there, NameEachOther}
+use Rattle.rh_agreement_colds.proofs.RowsStrangers.{db, store}
 
 -- web is to run at the first node, and else at the second one
 abbrev entry : EntryView
@@ -26,8 +28,12 @@ entry = record {
   places = record { is_tuple = false; nodes = p ∷ [] } ∷ record { is_tuple = false; nodes = q ∷ [] } ∷ [];
 }
 
+-- and db at the second node alone
+abbrev db_entry : EntryView
+db_entry = record { app = db; timeout = 5000; places = record { is_tuple = false; nodes = q ∷ [] } ∷ [] }
+
 abbrev pub file : OwnFile
-file = record { own = record { has_dist = true; entries = entry ∷ [] }; wait = wait.Forever }
+file = record { own = record { has_dist = true; entries = entry ∷ db_entry ∷ [] }; wait = wait.Forever }
 
 abbrev pub files : List OwnFile
 files = file ∷ file ∷ []
@@ -36,7 +42,7 @@ files = file ∷ file ∷ []
 
 -- where the first command begins
 abbrev pub fresh : SystemView
-fresh = record (system_of shop files (first_cells 2) first_net true) { step = 1 }
+fresh = record (system_of store files (first_cells 2) first_net true) { step = 1 }
 
 nobody_yet : (k : ℕ) → node_at fresh (record { 0 = k }) ≡ never_begun
 nobody_yet zero = refl
@@ -81,14 +87,14 @@ nobody_more (suc k) n = refl
 -- the node stands in one of the lists of the other one, and in that alone, or in none where it is to stand in none
 abbrev IsListedOnce : Node → Node → Type 0
 IsListedOnce n x =
-    one_if (is_in x (mandatory_of shop n)) + one_if (is_in x (optional_of shop n)) ≡ one_if (is_there fresh x && not (x.0 == n.0))
+    one_if (is_in x (mandatory_of store n)) + one_if (is_in x (optional_of store n)) ≡ one_if (is_there fresh x && not (x.0 == n.0))
 
-lists_of : (n : Node) → All IsOne (mandatory_of shop n) → All IsOne (optional_of shop n) → IsListedOnce n p → IsListedOnce n q
+lists_of : (n : Node) → All IsOne (mandatory_of store n) → All IsOne (optional_of store n) → IsListedOnce n p → IsListedOnce n q
     → (k : ℕ) → IsListedOnce n (record { 0 = k })
 lists_of n first second one two zero = one
 lists_of n first second one two (suc zero) = two
 lists_of n first second one two (suc (suc k)) =
-    (λ i. one_if (out_of k (mandatory_of shop n) first i) + one_if (out_of k (optional_of shop n) second i))
+    (λ i. one_if (out_of k (mandatory_of store n) first i) + one_if (out_of k (optional_of store n) second i))
     ∙ sym (ap one_if (nobody_more k n))
 
 one_of : (y : Node) → y.0 < 2 → All IsOne (y ∷ [])
@@ -104,7 +110,13 @@ names = record {
 }
 
 -- an application that is lost is started later
-pub later_of : (k : ℕ) → All (λ (e : EntryView). 0 < e.timeout) (own_at fresh (record { 0 = k })).entries
-later_of zero = All-cons (λ (e : EntryView). 0 < e.timeout) entry [] (omega arith) (All-nil (λ (e : EntryView). 0 < e.timeout))
-later_of (suc zero) = All-cons (λ (e : EntryView). 0 < e.timeout) entry [] (omega arith) (All-nil (λ (e : EntryView). 0 < e.timeout))
-later_of (suc (suc k)) = All-nil (λ (e : EntryView). 0 < e.timeout)
+abbrev pub IsLater : EntryView → Type 0
+IsLater e = 0 < e.timeout
+
+both_later : All IsLater (entry ∷ db_entry ∷ [])
+both_later = All-cons IsLater entry (db_entry ∷ []) (omega arith) (All-cons IsLater db_entry [] (omega arith) (All-nil IsLater))
+
+pub later_of : (k : ℕ) → All IsLater (own_at fresh (record { 0 = k })).entries
+later_of zero = both_later
+later_of (suc zero) = both_later
+later_of (suc (suc k)) = All-nil IsLater

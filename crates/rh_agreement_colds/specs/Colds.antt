@@ -44,10 +44,11 @@ pub record IsAnsweredInSomeOrder (c : Call) (sim : SimView) (live : LiveSimView)
 
 -- The last node of a cold start is to begin. By the manual's rules no application is to run yet, all boot lists are in order, nothing in
 -- them needs a distributed application, what isn't distributed is permitted where it is booted, and of the list of each distributed one
--- that is booted the first group with a node that may start it has one such node alone (`StartsInOrder`). On live nodes it is a cold start,
--- they can start together (`CanStartTogether`: all boot the same distributed applications, in one order), and the node is the one that is
--- left; nobody was told yet that something waits, and what comes of it isn't taken for a step without end. Both sides are told the same: of
--- what a node boots its own `distributed` has exactly what the cluster's has, and by both the same node is the first one that may run it.
+-- that is booted the first group with a node that may start it has one such node alone (`StartsInOrder`). On live nodes it is a cold
+-- start, they can start together (`CanStartTogether`: the distributed applications that they boot stand in one order, and those of them
+-- that a node doesn't boot are all left to the same node), and the node is the one that is left; nobody was told yet that something
+-- waits, and what comes of it isn't taken for a step without end. Both sides are told the same: of what a node boots its own
+-- `distributed` has exactly what the cluster's has, and by both the same node is the first one that may run it.
 pub record StartsCold (n : Node) (sim : SimView) (live : LiveSimView) : Type 0 where
   pub quiet : (a : App) → standing_of (state_of sim) a ≡ Quiet
   pub order : StartsInOrder sim.cluster

@@ -37,14 +37,15 @@ use Rattle.rh_agreement_rehearsals.specs.ColdStarts.{AreAgreedOrCold, AreAnswere
 
 -- ---- what the files say
 
--- Nodes start together, by the manual's rules and on live nodes. Each node waits for others: by the cluster, and by its own file. Its lists
--- name each other node once, in one of the two, and neither itself nor anybody else. On live nodes each has a dist_ac, and the distributed
--- applications of all boot lists are the same, in the same order (`CanStartTogether`). Boot lists are in order, nothing in them needs a
--- distributed application, what isn't distributed is permitted there, and the first group with a node that may start such an application
--- has one alone (`StartsInOrder`). Both sides are told the same: of what a node boots its own `distributed` has exactly what is distributed
--- by the cluster, and by both the same node is the first one that may run it. And the lists are so short that no boot of a node that waits
--- on is taken for a step without end: for each entry of the node's lists three messages, and connections between all that see this node and
--- all that see the named one, come to less than a million moves.
+-- Nodes start together, by the manual's rules and on live nodes. Each node waits for others: by the cluster, and by its own file. Its
+-- lists name each other node, in one of the two alone, and neither itself nor anybody else. On live nodes each has a dist_ac, the
+-- distributed applications that they boot stand in one order, and those of them that a node doesn't boot are all left to the same node
+-- (`CanStartTogether`). Boot lists are in order, nothing in them needs a distributed application, what isn't distributed is permitted
+-- there, and the first group with a node that may start such an application has one alone (`StartsInOrder`). Both sides are told the
+-- same: of what a node boots its own `distributed` has exactly what is distributed by the cluster, and by both the same node is the first
+-- one that may run it. And the lists are so short that no boot of a node that waits on is taken for a step without end: for each entry of
+-- the node's lists three messages, and connections between all that see this node and all that see the named one, come to less than a
+-- million moves.
 pub record StartTogether (c : ClusterView) (s : SystemView) : Type 0 where
   pub names : NameEachOther s
   pub can : CanStartTogether s

@@ -8,15 +8,16 @@ ghost use Rattle.rh_agreement_rehearsals.specs.WholeStarts.{RehearsalsBehindACol
 /// own law asks, is answered alike, call by call: boots of the first node where it waits, and of nodes that wait on; stops, ends that
 /// keep the node, starts and forbids of applications that aren't distributed; stops, ends that keep the node and starts of distributed
 /// ones, their takeovers, and permissions by which nothing else changes, or by which they start, stop or are called back; crashes; ticks
-/// at rest, and those over moments of failovers and of timers that are left over; `undo`, `redo`, `undo_all` and `redo_all`.
+/// at rest, and those over moments of failovers, of waits that end their nodes and of timers that are left over; `undo`, `redo`,
+/// `undo_all` and `redo_all`.
 pub fn agreed_calls_are_answered_alike()
     ensures { AgreedCallsAreAnsweredAlike }
 {}
 
 /// So it is of a whole rehearsal of such calls, from where no node has begun: of any cluster that a file says, whatever breaks a tie by the
 /// manual's rules and in whichever order live nodes take messages, if no node's own `distributed` has a timeout of 0. In such a rehearsal
-/// no node comes up, since each boot is one of a node that waits on, and no tick reaches the end of a wait; so calls at nodes that are up,
-/// and failovers, never meet there what they ask. `cold_rehearsals_are_answered_up_to_order` is of rehearsals in which all come up.
+/// no node comes up, since each boot is one of a node that waits on, and a wait that ends in a tick ends its node; so calls at nodes that
+/// are up, and failovers, never meet there what they ask. `cold_rehearsals_are_answered_up_to_order` is of rehearsals in which all come up.
 pub fn agreed_rehearsals_are_answered_alike()
     ensures { AgreedRehearsalsAreAnsweredAlike }
 {}
@@ -37,12 +38,13 @@ pub fn cold_rehearsals_are_answered_up_to_order()
 /// A whole cold start is answered alike, with conditions on the files alone, but for one: from where no node has begun the nodes of a
 /// cluster, two or more, begin one after the other, each once. All boots but the last one are answered by the same text, `ok` alone, and
 /// the last one by `ok` and the same lines, in some order; behind it both are at rest, now and behind each number of steps. A file says the
-/// cluster. Each node waits, by the cluster and by its own file; its lists name each other node once, and not the node itself. It has a
-/// dist_ac. All boot the same distributed applications, in one order; each entry of a boot list stands behind what it needs, which isn't
-/// distributed; what isn't distributed is permitted where it is booted. By both the same node is the first one that may run each that is
-/// distributed; of what a node boots its own `distributed` has exactly what is distributed, and has no timeout of 0. Lists are so short
-/// that boots of nodes that wait on stay below a million moves. The other condition is that what comes of the last boot isn't taken for a
-/// step without end on live nodes.
+/// cluster. Each node waits, by the cluster and by its own file; its lists name each other node, in one of the two alone, and not itself.
+/// It has a dist_ac. The distributed applications that nodes boot stand in one order. By both the same node is the first one that may run
+/// each of them, and it boots it: the application is left to it; and all those that a node doesn't boot are left to the same node. Each
+/// entry of a boot list stands behind what it needs, which isn't distributed; what isn't distributed is permitted where it is booted. Of
+/// what a node boots its own `distributed` has exactly what is distributed, and has no timeout of 0. Lists are so short that boots of nodes
+/// that wait on stay below a million moves. The other condition is that what comes of the last boot isn't taken for a step without end on
+/// live nodes.
 pub fn whole_starts_are_answered_alike()
     ensures { WholeStartsAreAnsweredAlike }
 {}

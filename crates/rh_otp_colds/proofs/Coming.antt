@@ -38,7 +38,7 @@ use Rattle.rh_otp_colds.specs.Colds.{is_there}
 use Rattle.rh_otp_colds.specs.Starts.{told_of, HasComeUp, HaveComeUp, LastBootsComeUp, LastBootsComeToRest}
 use Rattle.rh_otp_colds.proofs.Last.{all_begun, same_at}
 use Rattle.rh_otp_colds.proofs.Starting.{there_so}
-use Rattle.rh_otp_colds.proofs.Whole.{AllBegun, then_more, bare, bare_reaches, together, left_to, listed_alive, ends_as_scripts}
+use Rattle.rh_otp_colds.proofs.Whole.{AllBegun, then_more, bare, bare_reaches, together, left_so, left_to, listed_alive, ends_as_scripts}
 use Rattle.rh_otp_colds.proofs.Whole.{t as gathered, h as all_gathered}
 
 -- ---- who was told to have come up
@@ -71,10 +71,10 @@ nobody_up (x ∷ l) = nobody_up l
 
 -- ---- the one state
 
-abbrev Come : (App → Node) → SystemView → Type 0
-Come at s = (k : ℕ) × (u : SystemView) × LeadsTo k s u × Reaches s u × IsSettled u × HaveBooted at s u
+abbrev Come : List App → (App → Node) → SystemView → Type 0
+Come apps at s = (k : ℕ) × (u : SystemView) × LeadsTo k s u × Reaches s u × IsSettled u × HaveBooted apps at s u
 
-module _ (a : SystemView) (f : AllBegun a) (one : Come f.can.at (bare a f)) where
+module _ (a : SystemView) (f : AllBegun a) (one : Come f.can.apps f.can.at (bare a f)) where
   abbrev c : SystemView
   c = bare a f
 
@@ -84,7 +84,7 @@ module _ (a : SystemView) (f : AllBegun a) (one : Come f.can.at (bare a f)) wher
   abbrev h : HaveGathered a (gathered a f)
   h = all_gathered a f
 
-  b : HaveBooted f.can.at c u
+  b : HaveBooted f.can.apps f.can.at c u
   b = one.5
 
   cluster_so : c.cluster ≡ a.cluster
@@ -108,7 +108,7 @@ module _ (a : SystemView) (f : AllBegun a) (one : Come f.can.at (bare a f)) wher
   -- ---- each node
 
   module _ (m : Node) (some : 1 ≤ times m a.alive) where
-    here_b : HasBooted f.can.at m c u
+    here_b : HasBooted f.can.apps f.can.at m c u
     here_b = b.each m (listed m some)
 
     to_boot : IsToBoot (together a f).apps (together a f).at m c
@@ -249,8 +249,10 @@ module _ (a : SystemView) (f : AllBegun a) (one : Come f.can.at (bare a f)) wher
 -- ---- the laws
 
 module _ (alike : BootScriptsEndAlikeTogether) (to_one : BootScriptsComeToOneState) (a : SystemView) (f : AllBegun a) where
-  scripts_end : Come f.can.at (bare a f)
-  scripts_end = subst (λ (at : App → Node). Come at (bare a f)) (left_to a f) (to_one (bare a f) (together a f))
+  scripts_end : Come f.can.apps f.can.at (bare a f)
+  scripts_end =
+      subst (λ (at : App → Node). Come f.can.apps at (bare a f)) (left_to a f)
+      (subst (λ (apps : List App). Come apps (together a f).at (bare a f)) (left_so a f) (to_one (bare a f) (together a f)))
 
   reached_one : Reaches a scripts_end.1
   reached_one = then_more a (bare a f) scripts_end.1 (bare_reaches a f) scripts_end.3

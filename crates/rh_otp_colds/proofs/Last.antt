@@ -1,5 +1,5 @@
 -- The last node begins: all have begun then, and gather.
-use Rattle.std.proofs.Common.{◌≡◌, ◌≢◌, ◌≤◌, ◌⊎◌, ◌+◌, ◌==◌, ◌&&◌, nat_lt, List, [], ◌∷◌, map, filter, length, ◌<◌, ◌-◌, ◌^◌, is_some, Some, refl, sym, ap, subst, ◌∙◌, inl, inr, arith}
+use Rattle.std.proofs.Common.{◌≡◌, ◌≢◌, ◌≤◌, ◌⊎◌, ◌+◌, ◌==◌, ◌&&◌, nat_lt, true, List, [], ◌∷◌, map, filter, length, ◌<◌, ◌-◌, ◌^◌, is_some, Some, refl, sym, ap, subst, ◌∙◌, inl, inr, arith}
 use Rattle.std.specs.Prelude.{All}
 use Rattle.std.proofs.lemmas.Bool.{cases_eq, ne_eqb}
 use Rattle.std.proofs.lemmas.List.Elements.{All-nil, All-cons, All-head, All-tail, All-weaker}
@@ -28,9 +28,9 @@ use Rattle.rh_otp_gathers.specs.Gathers.{times, one_if, IsTelling, AllGather}
 use Rattle.rh_otp_gathers.specs.LastBoot.{IsLast}
 use Rattle.rh_otp_gathers.proofs.Begun.{Begins, v, here_n, there_n, at_m, alive_then, n_alive, waits_on, z, boots_so}
 use Rattle.rh_otp_gathers.proofs.LastBoot.{begins_so, gather_behind}
-use Rattle.rh_otp_together.specs.Together.{InOrder, distributed_of}
+use Rattle.rh_otp_together.specs.Together.{InOrder, distributed_of, boots_at, strangers_of, AreLeftToOne}
 use Rattle.rh_otp_colds.specs.Colds.{is_there, IsColdStart}
-use Rattle.rh_otp_colds.specs.Wholes.{first_runner, CanStartTogether, IsLeft, LastBootsEndAsScriptsDo}
+use Rattle.rh_otp_colds.specs.Wholes.{may_start, first_runner, CanStartTogether, IsLeft, LastBootsEndAsScriptsDo}
 use Rattle.rh_otp_colds.proofs.Starting.{there_so, is_there_so, listed_alive, unlisted_dead, is_last}
 use Rattle.rh_otp_colds.proofs.Whole.{same_order, AllBegun, bare, bare_reaches, bare_alive, together, ends_as_scripts}
 
@@ -47,15 +47,30 @@ can_still s t cluster files there can = record {
   short = λ m there_m. subst (λ (c : ClusterView). length (boot_of c m) < 2 ^ 64 - 1) (sym cluster) (can.short m (before m there_m));
   apps = can.apps;
   distributed = λ m there_m.
-      (λ i. distributed_of (own_in (files i) m) (boot_of (cluster i) m)) ∙ can.distributed m (before m there_m);
+      (λ i. distributed_of (own_in (files i) m) (boot_of (cluster i) m))
+      ∙ can.distributed m (before m there_m)
+      ∙ sym (λ i. filter (λ (x : App). boots m x i) can.apps);
+  strangers = λ m there_m.
+      subst (λ (c : ClusterView). AreLeftToOne can.at (strangers_of (record s { cluster = c }) m can.apps)) (sym cluster)
+      (can.strangers m (before m there_m));
   at = can.at;
+  runners = All-weaker (λ (x : App). (boots_at s (can.at x) x ≡ true) × (may_start s (can.at x) x ≡ true))
+      (λ (x : App). (boots_at t (can.at x) x ≡ true) × (may_start t (can.at x) x ≡ true))
+      (λ x both. (boots (can.at x) x ∙ both.0, may (can.at x) x ∙ both.1)) can.apps can.runners;
   first = λ m there_m.
-      All-weaker (λ (x : App). first_runner s m x ≡ Some (can.at x)) (λ (x : App). first_runner t m x ≡ Some (can.at x))
-      (λ x is. runner m x ∙ is) can.apps (can.first m (before m there_m));
+      All-weaker (λ (x : App). boots_at s m x ≡ true → first_runner s m x ≡ Some (can.at x))
+      (λ (x : App). boots_at t m x ≡ true → first_runner t m x ≡ Some (can.at x))
+      (λ x is has. runner m x ∙ is (sym (boots m x) ∙ has)) can.apps (can.first m (before m there_m));
 }
   where
     before : (m : Node) → IsThere m t → IsThere m s
     before m there_m = is_there_so s m (sym (there m) ∙ there_so t m there_m)
+
+    boots : (m : Node) (x : App) → boots_at t m x ≡ boots_at s m x
+    boots m x = ap (λ (c : ClusterView). boots_at (record s { cluster = c }) m x) cluster
+
+    may : (n : Node) (x : App) → may_start t n x ≡ may_start s n x
+    may n x = λ i. nat_lt n.0 (node_count (cluster i)) && flag (own_flags (cluster i) (own_in (files i) n) n) x
 
     runner : (m : Node) (x : App) → first_runner t m x ≡ first_runner s m x
     runner m x = λ i.
@@ -190,8 +205,6 @@ module _ (s : SystemView) (n : Node) (reached : IsReached s) (f : IsColdStart s)
         → IsButLists (node_at x m) (begun x.cluster (own_at x m) m never_begun))
         (sym so) begun_b;
     all = subst (λ (x : SystemView). (m : Node) → IsThere m x → 1 ≤ times m x.alive) (sym so) all_b;
-    some = n;
-    there = subst (IsThere n) (sym so) (v s n q, there_n s n q);
     connects = are_links.connects;
     slow = are_links.are;
     apart = are_links.apart;

@@ -1,12 +1,14 @@
--- A cluster that the laws are of: three nodes name one another, none has begun, and two begin, one after the other.
-use Rattle.std.proofs.Common.{◌≡◌, ◌≢◌, ◌<◌, ◌+◌, ◌-◌, ◌^◌, ◌==◌, ◌&&◌, ◌||◌, nat_lt, ℕ, zero, suc, Bool, true, false, not, List, [], ◌∷◌, length, unwrap_or, Option, Some, None, refl, sym, ap, subst, ◌∙◌, arith}
-use Rattle.std.specs.Prelude.{All}
+-- A cluster that the laws are of: three nodes name one another, one of them boots one application less than the others; none has begun, and
+-- two begin, one after the other.
+use Rattle.std.proofs.Common.{◌≡◌, ◌≢◌, ◌<◌, ◌≤◌, ◌+◌, ◌-◌, ◌^◌, ◌==◌, ◌&&◌, ◌||◌, nat_lt, ℕ, zero, suc, Bool, true, false, not, List, [], ◌∷◌, filter, length, unwrap_or, Option, Some, None, refl, sym, ap, subst, ◌∙◌, arith}
+use Rattle.std.specs.Prelude.{All, if◌then◌else◌}
 use Rattle.std.proofs.lemmas.Bool.{and_parts, ltb-true, false_from_ne_true, ne_eqb}
 use Rattle.std.proofs.lemmas.List.Elements.{All-nil, All-cons, All-head, All-tail}
 use Rattle.std.proofs.lemmas.Option.{none-some}
-use Rattle.rh_model.specs.ClusterView.{ClusterView, NodeView, numbered, is_in, mandatory_of, optional_of, boot_of, is_permitted}
+use Rattle.rh_model.specs.ClusterView.{ClusterView, NodeView, numbered, app_numbered, is_in, mandatory_of, optional_of, boot_of, is_permitted}
 use Rattle.rh_model.specs.declared.node.App.{App}
 use Rattle.rh_model.specs.declared.node.Node.{Node}
+use Rattle.rh_model.specs.declared.settings.Restart.{Restart}
 use Rattle.rh_model.specs.declared.settings.Restart.TheVariants.{Temporary}
 use Rattle.rh_model.specs.declared.settings.SyncWait.TheVariants.{After}
 use Rattle.rh_otp_model.specs.declared.wait.OwnFile.{OwnFile}
@@ -47,9 +49,10 @@ use Rattle.rh_otp_stops.proofs.Rows.{n1, n2, d1, l1, no_net, quiet}
 use Rattle.rh_otp_waits.specs.Waits.{HasItWait}
 use Rattle.rh_otp_gathers.specs.Gathers.{one_if}
 use Rattle.rh_otp_gathers.specs.LastBoot.{IsLast}
-use Rattle.rh_otp_together.specs.Together.{IsBefore, InOrder, distributed_of}
+use Rattle.rh_otp_together.specs.Together.{IsBefore, InOrder, distributed_of, boots_at, strangers_of}
+use Rattle.rh_otp_together.proofs.Sharing.{few_left_to_one}
 use Rattle.rh_otp_colds.specs.Colds.{is_there, NameEachOther, IsColdStart}
-use Rattle.rh_otp_colds.specs.Wholes.{first_runner, CanStartTogether, IsLeft, IsStarting, none_yet, one_more}
+use Rattle.rh_otp_colds.specs.Wholes.{may_start, first_runner, CanStartTogether, IsLeft, IsStarting, none_yet, one_more}
 use Rattle.rh_otp_colds.proofs.Boot.{colds_go_on}
 use Rattle.rh_otp_colds.proofs.Each.{SoFar, so_far}
 
@@ -58,33 +61,48 @@ use Rattle.rh_otp_colds.proofs.Each.{SoFar, so_far}
 abbrev n3 : Node
 n3 = numbered 2
 
--- it waits for these, and starts both applications
-abbrev node_of : List Node → List Node → NodeView
-node_of mandatory optional = record {
+abbrev d2 : App
+d2 = app_numbered 2
+
+-- it waits for these, and boots so
+abbrev node_of : List Node → List Node → List (App × Restart) → NodeView
+node_of mandatory optional boot = record {
   mandatory = mandatory;
   optional = optional;
   sync_wait = After 12000;
-  boot = (d1, Temporary) ∷ (l1, Temporary) ∷ [];
-  permissions = true ∷ true ∷ [];
+  boot = boot;
+  permissions = true ∷ true ∷ true ∷ [];
   platforms = [];
 }
+
+-- the first node is in the list of the one distributed application, and the others are in those of both
+abbrev one_of_both : List (App × Restart)
+one_of_both = (d1, Temporary) ∷ (l1, Temporary) ∷ []
+
+abbrev all_three : List (App × Restart)
+all_three = (d1, Temporary) ∷ (l1, Temporary) ∷ (d2, Temporary) ∷ []
 
 abbrev cluster : ClusterView
 cluster = record {
   profile = 1;
   node_names = (97 ∷ []) ∷ (98 ∷ []) ∷ (99 ∷ []) ∷ [];
-  app_names = (97 ∷ []) ∷ (98 ∷ []) ∷ [];
+  app_names = (97 ∷ []) ∷ (98 ∷ []) ∷ (99 ∷ []) ∷ [];
   platform_names = [];
-  nodes = node_of (n2 ∷ []) (n3 ∷ []) ∷ node_of [] (n1 ∷ n3 ∷ []) ∷ node_of (n1 ∷ n2 ∷ []) [] ∷ [];
+  nodes = node_of (n2 ∷ []) (n3 ∷ []) one_of_both ∷ node_of [] (n1 ∷ n3 ∷ []) all_three ∷ node_of (n1 ∷ n2 ∷ []) [] all_three ∷ [];
   apps = record {
     deps = [];
     start_arg = None;
     phases = false;
     spread = Some (record { timeout = 5000; groups = (n2 ∷ []) ∷ (n1 ∷ []) ∷ (n3 ∷ []) ∷ [] });
-  } ∷ record { deps = []; start_arg = None; phases = false; spread = None } ∷ [];
+  } ∷ record { deps = []; start_arg = None; phases = false; spread = None } ∷ record {
+    deps = [];
+    start_arg = None;
+    phases = false;
+    spread = Some (record { timeout = 5000; groups = (n3 ∷ []) ∷ (n2 ∷ []) ∷ [] });
+  } ∷ [];
 }
 
--- the application is to run at the second node
+-- All nodes have the same: the one application is to run at the second node, and the other one at the third.
 abbrev file : OwnFile
 file = record {
   own = record {
@@ -94,6 +112,10 @@ file = record {
       timeout = 5000;
       places = record { is_tuple = false; nodes = n2 ∷ [] } ∷ record { is_tuple = false; nodes = n1 ∷ [] }
           ∷ record { is_tuple = false; nodes = n3 ∷ [] } ∷ [];
+    } ∷ record {
+      app = d2;
+      timeout = 5000;
+      places = record { is_tuple = false; nodes = n3 ∷ [] } ∷ record { is_tuple = false; nodes = n2 ∷ [] } ∷ [];
     } ∷ [];
   };
   wait = wait.Forever;
@@ -198,32 +220,62 @@ nodes_so (suc (suc (suc (suc k)))) =
     sym (false_from_ne_true _ (λ is.
     (let less : suc (suc (suc (suc k))) < 3 = ltb-true (suc (suc (suc (suc k)))) 3 is in omega (arith, less))))
 
-abbrev IsAtSecond : Node → App → Type 0
-IsAtSecond m a = first_runner none_begun m a ≡ Some n2
+-- where they are to run
+abbrev runner_of : App → Node
+runner_of a = if a.0 == 0 then n2 else n3
+
+abbrev Runs : App → Type 0
+Runs a = (boots_at none_begun (runner_of a) a ≡ true) × (may_start none_begun (runner_of a) a ≡ true)
+
+abbrev IsFirst : Node → App → Type 0
+IsFirst m a = boots_at none_begun m a ≡ true → first_runner none_begun m a ≡ Some (runner_of a)
 
 can : CanStartTogether none_begun
 can = record {
   nodes = λ m. nodes_so m.0;
   has_dist = λ m there. of_three (λ (n : Node). has_dist_at none_begun n ≡ true) refl refl refl m.0 there;
   in_order = λ m there.
-      of_three (λ (n : Node). InOrder none_begun n [] (boot_of cluster n)) (ordered n1 refl) (ordered n2 refl) (ordered n3 refl) m.0 there;
+      of_three (λ (n : Node). InOrder none_begun n [] (boot_of cluster n)) (first_two n1 refl) (three n2 refl) (three n3 refl) m.0 there;
   short = λ m there. of_three (λ (n : Node). length (boot_of cluster n) < 2 ^ 64 - 1) (omega arith) (omega arith) (omega arith) m.0 there;
-  apps = d1 ∷ [];
+  apps = d1 ∷ d2 ∷ [];
   distributed = λ m there.
-      of_three (λ (n : Node). distributed_of (own_at none_begun n) (boot_of cluster n) ≡ d1 ∷ []) refl refl refl m.0 there;
-  at = λ a. n2;
+      of_three (λ (n : Node). distributed_of (own_at none_begun n) (boot_of cluster n) ≡ filter (boots_at none_begun n) (d1 ∷ d2 ∷ []))
+      refl refl refl m.0 there;
+  strangers = λ m there. few_left_to_one runner_of (strangers_of none_begun m (d1 ∷ d2 ∷ []))
+      (of_three (λ (n : Node). length (strangers_of none_begun n (d1 ∷ d2 ∷ [])) ≤ 1) (omega arith) (omega arith) (omega arith) m.0 there);
+  at = runner_of;
+  runners = both Runs (refl, refl) (refl, refl);
   first = λ m there.
-      of_three (λ (n : Node). All (IsAtSecond n) (d1 ∷ []))
-      (All-cons (IsAtSecond n1) d1 [] refl (All-nil (IsAtSecond n1))) (All-cons (IsAtSecond n2) d1 [] refl (All-nil (IsAtSecond n2)))
-      (All-cons (IsAtSecond n3) d1 [] refl (All-nil (IsAtSecond n3))) m.0 there;
+      of_three (λ (n : Node). All (IsFirst n) (d1 ∷ d2 ∷ [])) (both (IsFirst n1) (λ boots. refl) (λ boots. refl))
+      (both (IsFirst n2) (λ boots. refl) (λ boots. refl)) (both (IsFirst n3) (λ boots. refl) (λ boots. refl)) m.0 there;
 }
   where
-    ordered : (m : Node) → (is_permitted cluster m d1 && is_permitted cluster m l1) ≡ true
-        → InOrder none_begun m [] ((d1, Temporary) ∷ (l1, Temporary) ∷ [])
-    ordered m may =
-        let both : (is_permitted cluster m d1 ≡ true) × (is_permitted cluster m l1 ≡ true) =
+    both : (P : App → Type 0) → P d1 → P d2 → All P (d1 ∷ d2 ∷ [])
+    both P one two = All-cons P d1 (d2 ∷ []) one (All-cons P d2 [] two (All-nil P))
+
+    first_two : (m : Node) → (is_permitted cluster m d1 && is_permitted cluster m l1) ≡ true → InOrder none_begun m [] one_of_both
+    first_two m may =
+        let parts : (is_permitted cluster m d1 ≡ true) × (is_permitted cluster m l1 ≡ true) =
         and_parts (is_permitted cluster m d1) (is_permitted cluster m l1) may in
-        (refl, All-nil (IsBefore none_begun m []), λ out. both.0, (refl, All-nil (IsBefore none_begun m (d1 ∷ [])), λ out. both.1, tt))
+        (refl, All-nil (IsBefore none_begun m []), λ out. parts.0, (refl, All-nil (IsBefore none_begun m (d1 ∷ [])), λ out. parts.1, tt))
+
+    three : (m : Node) → (is_permitted cluster m d1 && (is_permitted cluster m l1 && is_permitted cluster m d2)) ≡ true
+        → InOrder none_begun m [] all_three
+    three m may =
+        let parts : (is_permitted cluster m d1 ≡ true) × ((is_permitted cluster m l1 && is_permitted cluster m d2) ≡ true) =
+        and_parts (is_permitted cluster m d1) (is_permitted cluster m l1 && is_permitted cluster m d2) may in
+        let more : (is_permitted cluster m l1 ≡ true) × (is_permitted cluster m d2 ≡ true) =
+        and_parts (is_permitted cluster m l1) (is_permitted cluster m d2) parts.1 in (
+          refl,
+          All-nil (IsBefore none_begun m []),
+          λ out. parts.0,
+          (
+            refl,
+            All-nil (IsBefore none_begun m (d1 ∷ [])),
+            λ out. more.0,
+            (refl, All-nil (IsBefore none_begun m (l1 ∷ d1 ∷ [])), λ out. more.1, tt),
+          ),
+        )
 
 -- ---- what the prover computes of it
 
@@ -316,12 +368,15 @@ is_left s so = record {
     others (suc (suc zero)) there apart = so.third
     others (suc (suc (suc k))) there apart = absurd (none-some there.0 (sym (so.none k) ∙ there.1))
 
--- There are such nodes, of which none has begun; the first one begins, and the third one, and then the second one is the last: the others
--- wait for it alone.
+-- There are such nodes, of which none has begun; the first one, which doesn't boot one of the applications, begins, and the third one, and
+-- then the second one is the last: the others wait for it alone.
 record Row : Type 0 where
   is_new : IsNew none_begun
   names : NameEachOther none_begun
   can : CanStartTogether none_begun
+  first_lacks : strangers_of none_begun n1 can.apps ≡ d2 ∷ []
+  second_has_all : strangers_of none_begun n2 can.apps ≡ []
+  runs_at : can.at d2 ≡ n3
   starting : IsStarting two_wait
   reached : IsReached two_wait
   cold : IsColdStart two_wait
@@ -333,6 +388,7 @@ record Row : Type 0 where
   third_waits : (node_at two_wait n3).mandatory ≡ n2 ∷ []
 
 row : Row
+unfolding can
 row =
     let f : SoFar two_wait = so_far two_wait (two_starting at_one) in
     let left : IsLeft n2 two_wait = is_left two_wait at_two in
@@ -340,6 +396,9 @@ row =
       is_new = is_new;
       names = names;
       can = can;
+      first_lacks = refl;
+      second_has_all = refl;
+      runs_at = refl;
       starting = two_starting at_one;
       reached = f.reached;
       cold = f.cold;

@@ -39,9 +39,9 @@ use Rattle.rh_otp_joins.proofs.Stages.{up_alive}
 use Rattle.rh_otp_gathers.specs.Gathers.{times, AllGather, KnowsAll, IsGathered, HaveGathered}
 use Rattle.rh_otp_gathers.proofs.Begun.{in_count_by}
 use Rattle.rh_otp_gathers.proofs.Opening.{counts_so, gathers}
-use Rattle.rh_otp_together.specs.Together.{IsBefore, InOrder, distributed_of, IsBlank, LeavesTo, IsToBoot, BootTogether}
+use Rattle.rh_otp_together.specs.Together.{IsBefore, InOrder, distributed_of, boots_at, strangers_of, AreLeftToOne, IsBlank, LeavesTo, IsToBoot, BootTogether}
 use Rattle.rh_otp_colds.specs.Wholes.{may_start, first_runner, CanStartTogether}
-use Rattle.rh_otp_colds.proofs.Choosing.{same_filter, in_filtered, may_so, first_among, unknown_first}
+use Rattle.rh_otp_colds.proofs.Choosing.{same_filter, may_so, first_among, unknown_first}
 use Rattle.rh_otp_colds.proofs.Starting.{is_there_so}
 
 -- ---- boot lists are as the cluster and the files say
@@ -75,8 +75,6 @@ pub record AllBegun (a : SystemView) : Type 0 where
     optional = (node_at a m).optional;
   }
   pub all : (m : Node) → IsThere m a → 1 ≤ times m a.alive
-  pub some : Node
-  pub there : IsThere some a
   pub connects : List Link
   pub slow : a.slow ≡ map connect_of connects
   pub apart : All (λ (l : Link). l.0.0 ≢ l.1.0) connects
@@ -119,6 +117,9 @@ module _ (a : SystemView) (f : AllBegun a) where
 
   files_t : t.files ≡ a.files
   files_t = ap (λ (x : SystemView). x.files) h.rest
+
+  boots_so : (m : Node) (x : App) → boots_at bare m x ≡ boots_at a m x
+  boots_so m x = ap (λ (c : ClusterView). boots_at (record a { cluster = c }) m x) cluster_t
 
   alive_there : (m : Node) → 1 ≤ times m a.alive → IsThere m a
   alive_there m some = (f.gather.each m some).there
@@ -227,32 +228,29 @@ module _ (a : SystemView) (f : AllBegun a) where
       in_order = subst (λ (c : ClusterView). InOrder bare m [] (boot_of c m)) (sym cluster_t)
           (same_order a bare m cluster_t files_t [] (boot_of a.cluster m) (f.can.in_order m there));
       short = subst (λ (c : ClusterView). length (boot_of c m) < 2 ^ 64 - 1) (sym cluster_t) (f.can.short m there);
-      distributed = (λ i. distributed_of (own_t i) (boot_of (cluster_t i) m)) ∙ f.can.distributed m there;
-      leaves = subst (λ (own : OwnView). All (λ (x : App). ((is_among m (candidates_at own x d) ≡ true)
+      distributed = (λ i. distributed_of (own_t i) (boot_of (cluster_t i) m))
+          ∙ f.can.distributed m there
+          ∙ sym (λ i. filter (λ (x : App). boots_so m x i) f.can.apps);
+      leaves = subst (λ (own : OwnView). All (λ (x : App). boots_at bare m x ≡ true → ((is_among m (candidates_at own x d) ≡ true)
           × (first_of (candidates_at own x d) (places_of own x) ≡ Some (f.can.at x)))
           ⊎ ((is_among m (candidates_at own x d) ≡ false) × (is_among (f.can.at x) (candidates_at own x d) ≡ true))) f.can.apps) (sym own_t)
-          (All-weaker (λ (x : App). first_runner a m x ≡ Some (f.can.at x)) (λ (x : App). LeavesTo m x d a (f.can.at x))
-          (λ x is. leaves x (f.can.at x) is) f.can.apps (f.can.first m there));
+          (All-weaker (λ (x : App). boots_at a m x ≡ true → first_runner a m x ≡ Some (f.can.at x))
+          (λ (x : App). boots_at bare m x ≡ true → LeavesTo m x d a (f.can.at x))
+          (λ x is boots. leaves x (f.can.at x) (is (sym (boots_so m x) ∙ boots))) f.can.apps (f.can.first m there));
+      strangers = subst (λ (c : ClusterView). AreLeftToOne f.can.at (strangers_of (record a { cluster = c }) m f.can.apps)) (sym cluster_t)
+          (f.can.strangers m there);
     }
 
   -- ---- the scripts begin together
 
-  runner_alive : (x : App) → first_runner a f.some x ≡ Some (f.can.at x) → 1 ≤ times (f.can.at x) bare.alive
-  runner_alive x is =
-      subst (λ (l : List Node). 1 ≤ times (f.can.at x) l) (sym h.alive)
-      (f.all (f.can.at x)
-      (is_there_so a (f.can.at x) (f.can.nodes (f.can.at x) ∙ (and_parts (nat_lt (f.can.at x).0 (node_count a.cluster)) _ may).0)))
-    where
-      nodes : List Node
-      nodes = backwards (own_at a f.some) x
-
-      among : (is_in (f.can.at x) nodes && may_start a (f.can.at x) x) ≡ true
-      among =
-          sym (in_filtered (λ (n : Node). may_start a n x) (f.can.at x) nodes)
-          ∙ first_among (filter (λ (n : Node). may_start a n x) nodes) (f.can.at x) (places_of (own_at a f.some) x) is
-
-      may : may_start a (f.can.at x) x ≡ true
-      may = (and_parts (is_in (f.can.at x) nodes) (may_start a (f.can.at x) x) among).1
+  runner_alive : (x : App) → (boots_at a (f.can.at x) x ≡ true) × (may_start a (f.can.at x) x ≡ true)
+      → (1 ≤ times (f.can.at x) bare.alive) × (boots_at bare (f.can.at x) x ≡ true)
+  runner_alive x both = (
+    subst (λ (l : List Node). 1 ≤ times (f.can.at x) l) (sym h.alive)
+        (f.all (f.can.at x)
+        (is_there_so a (f.can.at x) (f.can.nodes (f.can.at x) ∙ (and_parts (nat_lt (f.can.at x).0 (node_count a.cluster)) _ both.1).0))),
+    boots_so (f.can.at x) x ∙ both.0,
+  )
 
   pub together : BootTogether bare
   together = record {
@@ -260,8 +258,9 @@ module _ (a : SystemView) (f : AllBegun a) where
     apps = f.can.apps;
     at = f.can.at;
     each = λ m listed. to_boot m (subst (λ (l : List Node). 1 ≤ times m l) h.alive listed);
-    runners = All-weaker (λ (x : App). first_runner a f.some x ≡ Some (f.can.at x)) (λ (x : App). 1 ≤ times (f.can.at x) bare.alive)
-        runner_alive f.can.apps (f.can.first f.some f.there);
+    runners = All-weaker (λ (x : App). (boots_at a (f.can.at x) x ≡ true) × (may_start a (f.can.at x) x ≡ true))
+        (λ (x : App). (1 ≤ times (f.can.at x) bare.alive) × (boots_at bare (f.can.at x) x ≡ true))
+        runner_alive f.can.apps f.can.runners;
     nodes = h.joined;
     slow = refl;
     all = λ m. h.all m ∙ sym (ap (times m) h.alive);
@@ -270,7 +269,11 @@ module _ (a : SystemView) (f : AllBegun a) where
     locks = h.locks;
   }
 
-  -- they are left to the nodes to which the files leave them
+  -- they are the applications of the files, left to the nodes to which the files leave them
+  pub left_so : together.apps ≡ f.can.apps
+  unfolding together
+  left_so = refl
+
   pub left_to : together.at ≡ f.can.at
   unfolding together
   left_to = refl

@@ -14,7 +14,7 @@ use Rattle.rh_otp_orders.specs.Confluence.{EveryOrderEndsAlike}
 use Rattle.rh_otp_crashes.specs.Failovers.{first_of}
 use Rattle.rh_otp_stops.specs.Stops.{EndsAlike}
 use Rattle.rh_otp_joins.specs.Joins.{uncounted}
-use Rattle.rh_otp_together.specs.Together.{InOrder, distributed_of, BootTogether}
+use Rattle.rh_otp_together.specs.Together.{InOrder, distributed_of, boots_at, strangers_of, AreLeftToOne, BootTogether}
 use Rattle.rh_otp_colds.specs.Colds.{is_there, NameEachOther, IsColdStart}
 
 -- ---- what the files say of applications
@@ -29,17 +29,20 @@ abbrev pub first_runner : SystemView → Node → App → Option Node
 first_runner s m a = first_of (filter (λ (x : Node). may_start s x a) (backwards (own_at s m) a)) (places_of (own_at s m) a)
 
 -- Nodes are those of the cluster. Each has a dist_ac, and a boot list that is in order and shorter than a number of 64 bits counts. The
--- distributed applications of all boot lists are these, in this order, and by each node's own file the same node is the first one that may
--- run such an application (ours).
+-- entries of that list that its own `distributed` has are exactly those of these applications that the node boots, in their order; those
+-- that it doesn't boot are all left to the same node. Each of these applications is left to a node that boots it and may run it, and that
+-- is the first one that may by the file of each node that boots it (ours).
 pub record CanStartTogether (s : SystemView) : Type 0 where
   pub nodes : (m : Node) → is_there s m ≡ nat_lt m.0 (node_count s.cluster)
   pub has_dist : (m : Node) → IsThere m s → has_dist_at s m ≡ true
   pub in_order : (m : Node) → IsThere m s → InOrder s m [] (boot_of s.cluster m)
   pub short : (m : Node) → IsThere m s → length (boot_of s.cluster m) < 2 ^ 64 - 1
   pub apps : List App
-  pub distributed : (m : Node) → IsThere m s → distributed_of (own_at s m) (boot_of s.cluster m) ≡ apps
+  pub distributed : (m : Node) → IsThere m s → distributed_of (own_at s m) (boot_of s.cluster m) ≡ filter (boots_at s m) apps
   pub at : App → Node
-  pub first : (m : Node) → IsThere m s → All (λ (a : App). first_runner s m a ≡ Some (at a)) apps
+  pub strangers : (m : Node) → IsThere m s → AreLeftToOne at (strangers_of s m apps)
+  pub runners : All (λ (a : App). (boots_at s (at a) a ≡ true) × (may_start s (at a) a ≡ true)) apps
+  pub first : (m : Node) → IsThere m s → All (λ (a : App). boots_at s m a ≡ true → first_runner s m a ≡ Some (at a)) apps
 
 -- ---- the last boot
 

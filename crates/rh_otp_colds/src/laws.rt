@@ -16,10 +16,11 @@ pub fn cold_starts_go_on()
 
 /// The last boot of such a cold start leads to a state in which the boot scripts of all that are alive then are to begin together, and
 /// nothing else is left to move; and if every order ends alike from there, every order of what comes of the boot ends alike. The nodes are
-/// those of the cluster, each has a dist_ac, the boot lists are in order and have the same distributed applications in the same order; and
-/// by each node's own `distributed`, and the permissions of all, one and the same node is the first of the list of such an application that
-/// may run it, with no tuple before it. In a file that is accepted each of these lists has all nodes then, since a node boots a distributed
-/// application only if its list has the node.
+/// those of the cluster, each has a dist_ac, and the boot lists are in order. There is one list of applications such that what each node's
+/// own `distributed` has of its boot list is exactly what the node boots of that list, in the list's order; and those that it doesn't boot
+/// are all left to the same node. Each application of the list is left to one node, which boots it and may run it: by the own `distributed`
+/// of each node that boots it, and the permissions of all, that is the first node of the application's list that may run it, with no tuple
+/// before it.
 pub fn last_boots_end_as_scripts_do()
     ensures { LastBootsEndAsScriptsDo }
 {}

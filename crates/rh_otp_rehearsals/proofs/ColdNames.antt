@@ -1,6 +1,6 @@
 -- Two nodes of which none has begun, and each of whose lists names the other one: a cold start, as the files have it.
 use Rattle.std.specs.Prelude.{All}
-use Rattle.std.proofs.Common.{◌≡◌, ◌<◌, ◌+◌, ◌-◌, ◌^◌, ◌==◌, ◌&&◌, ◌||◌, nat_lt, ℕ, zero, suc, Bool, true, false, not, List, [], ◌∷◌, length, Some, None, refl, sym, ap, ◌∙◌, arith}
+use Rattle.std.proofs.Common.{◌≡◌, ◌<◌, ◌≤◌, ◌+◌, ◌-◌, ◌^◌, ◌==◌, ◌&&◌, ◌||◌, nat_lt, ℕ, zero, suc, Bool, true, false, not, List, [], ◌∷◌, filter, length, Some, None, refl, sym, ap, ◌∙◌, arith}
 use Rattle.std.proofs.lemmas.Bool.{and_parts, ltb-true, false_from_ne_true, ne_eqb}
 use Rattle.std.proofs.lemmas.List.Elements.{All-nil, All-cons, All-head, All-tail}
 use Rattle.std.proofs.lemmas.Option.{none-some}
@@ -19,9 +19,10 @@ use Rattle.rh_otp_laws.specs.Acting.{IsThere, IsNew}
 use Rattle.rh_otp_stops.proofs.Rows.{n1, n2, d1, l1}
 use Rattle.rh_otp_waits.specs.Waits.{HasItWait}
 use Rattle.rh_otp_gathers.specs.Gathers.{one_if}
-use Rattle.rh_otp_together.specs.Together.{IsBefore, InOrder, distributed_of}
+use Rattle.rh_otp_together.specs.Together.{IsBefore, InOrder, distributed_of, boots_at, strangers_of}
+use Rattle.rh_otp_together.proofs.Sharing.{few_left_to_one}
 use Rattle.rh_otp_colds.specs.Colds.{is_there, NameEachOther}
-use Rattle.rh_otp_colds.specs.Wholes.{first_runner, CanStartTogether}
+use Rattle.rh_otp_colds.specs.Wholes.{may_start, first_runner, CanStartTogether}
 
 -- ---- the cluster
 
@@ -143,8 +144,11 @@ nodes_so (suc (suc zero)) = refl
 nodes_so (suc (suc (suc k))) =
     sym (false_from_ne_true _ (λ is. (let less : suc (suc (suc k)) < 2 = ltb-true (suc (suc (suc k))) 2 is in omega (arith, less))))
 
+abbrev RunsThere : App → Type 0
+RunsThere a = (boots_at fresh n1 a ≡ true) × (may_start fresh n1 a ≡ true)
+
 abbrev IsAtFirst : Node → App → Type 0
-IsAtFirst m a = first_runner fresh m a ≡ Some n1
+IsAtFirst m a = boots_at fresh m a ≡ true → first_runner fresh m a ≡ Some n1
 
 pub can : CanStartTogether fresh
 can = record {
@@ -154,11 +158,15 @@ can = record {
       of_two (λ (n : Node). InOrder fresh n [] (boot_of cluster n)) (ordered n1 refl) (ordered n2 refl) m.0 there;
   short = λ m there. of_two (λ (n : Node). length (boot_of cluster n) < 2 ^ 64 - 1) (omega arith) (omega arith) m.0 there;
   apps = d1 ∷ [];
-  distributed = λ m there. of_two (λ (n : Node). distributed_of (own_at fresh n) (boot_of cluster n) ≡ d1 ∷ []) refl refl m.0 there;
+  distributed = λ m there.
+      of_two (λ (n : Node). distributed_of (own_at fresh n) (boot_of cluster n) ≡ filter (boots_at fresh n) (d1 ∷ [])) refl refl m.0 there;
+  strangers = λ m there. few_left_to_one (λ a. n1) (strangers_of fresh m (d1 ∷ []))
+      (of_two (λ (n : Node). length (strangers_of fresh n (d1 ∷ [])) ≤ 1) (omega arith) (omega arith) m.0 there);
   at = λ a. n1;
+  runners = All-cons RunsThere d1 [] (refl, refl) (All-nil RunsThere);
   first = λ m there.
-      of_two (λ (n : Node). All (IsAtFirst n) (d1 ∷ [])) (All-cons (IsAtFirst n1) d1 [] refl (All-nil (IsAtFirst n1)))
-      (All-cons (IsAtFirst n2) d1 [] refl (All-nil (IsAtFirst n2))) m.0 there;
+      of_two (λ (n : Node). All (IsAtFirst n) (d1 ∷ [])) (All-cons (IsAtFirst n1) d1 [] (λ boots. refl) (All-nil (IsAtFirst n1)))
+      (All-cons (IsAtFirst n2) d1 [] (λ boots. refl) (All-nil (IsAtFirst n2))) m.0 there;
 }
   where
     ordered : (m : Node) → (is_permitted cluster m d1 && is_permitted cluster m l1) ≡ true

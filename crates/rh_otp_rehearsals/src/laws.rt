@@ -22,7 +22,8 @@ pub fn reports_are_the_same()
 /// call, of permissions of distributed applications, and of boots: of nodes that wait on, of nodes that come back to others, all of which
 /// are up, and those that go one way to where the script begins; or if a node boots with one message, or where none is one slower thing, at
 /// a time; or if time passes, nothing moves, and no timer is due until its end, or at each moment until then at which timers are due these
-/// are left over, or are those of a failover, or all that comes of them ends alike; or if the command ends alike for another reason.
+/// are left over, or are those of a failover, or of a wait that ends its node, or all that comes of them ends alike; or if the command ends
+/// alike for another reason.
 pub fn covered_rehearsals_end_alike()
     ensures { CoveredRehearsalsEndAlike }
 {}

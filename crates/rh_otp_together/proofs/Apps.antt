@@ -14,6 +14,12 @@ use Rattle.rh_otp_joins.proofs.Lists.{more_if}
 pub same_app : (a b : App) → a.0 ≡ b.0 → a ≡ b
 same_app a b same = λ i. record { 0 = same i }
 
+-- it makes no difference which of two is counted first
+pub swapped : (b d : Bool) (j : ℕ) → more_if b (more_if d j) ≡ more_if d (more_if b j)
+swapped true true j = refl
+swapped true false j = refl
+swapped false d j = refl
+
 -- how often the application stands in the list
 abbrev pub tally : App → List App → ℕ
 tally a [] = 0
@@ -119,11 +125,6 @@ fewer_rows a c [] some = absurd (omega (arith, some))
 fewer_rows {T} a c (row ∷ rows) some =
     by (cases_Bool (row.0.0 == a.0)) some (fewer_rows a c rows)
   where
-    swapped : (b d : Bool) (j : ℕ) → more_if b (more_if d j) ≡ more_if d (more_if b j)
-    swapped true true j = refl
-    swapped true false j = refl
-    swapped false d j = refl
-
     by : ((row.0.0 == a.0) ≡ true) ⊎ ((row.0.0 == a.0) ≡ false) → 1 ≤ more_if (row.0.0 == a.0) (tally_rows a rows)
         → (1 ≤ tally_rows a rows → tally_rows c rows ≡ more_if (a.0 == c.0) (tally_rows c (keydelete a rows)))
         → tally_rows c (row ∷ rows) ≡ more_if (a.0 == c.0) (tally_rows c (keydelete a (row ∷ rows)))

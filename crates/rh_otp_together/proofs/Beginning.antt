@@ -95,6 +95,7 @@ module _ {b : SystemView} (g : BootTogether b) where
     inner = λ m alive. refl;
     away = λ m a alive other. refl;
     home = λ m a alive mine. refl;
+    order = λ m n q alive apart strange. refl;
     events = λ m alive. sym (append-nil (of_owner node_told (Some m) b.events));
     strangers = λ m out. refl;
     nobodys = refl;

@@ -31,7 +31,7 @@ use Rattle.rh_otp_joins.specs.Leading.{LeadsTo}
 use Rattle.rh_otp_joins.proofs.Lists.{more_if, count_of}
 use Rattle.rh_otp_gathers.proofs.Opening.{counts_so}
 use Rattle.rh_otp_together.specs.Together.{BootTogether}
-use Rattle.rh_otp_together.specs.Booted.{place_there, told_there, HasBooted, HaveBooted, BootScriptsComeToOneState}
+use Rattle.rh_otp_together.specs.Booted.{place_there, told_there, rows_of, HasBooted, HaveBooted, BootScriptsComeToOneState}
 use Rattle.rh_otp_together.proofs.Apps.{same_app, tally}
 use Rattle.rh_otp_together.proofs.Beginning.{first_stage, first_weight}
 use Rattle.rh_otp_together.proofs.Ending.{last, far_so, ends_so, no_locks, end_alike}
@@ -176,7 +176,7 @@ module _ {b : SystemView} (g : BootTogether b) where
 
   -- ---- what it comes to
 
-  booted : (t : SystemView) → Stage b g.at 0 t → HaveBooted g.at b t
+  booted : (t : SystemView) → Stage b g.at 0 t → HaveBooted g.apps g.at b t
   booted t f = record {
     each = λ m some. at m (subst (λ (k : ℕ). 1 ≤ k) (sym (counts_so m b.alive)) some);
     messages = ap (λ (x : SystemView). x.messages) (ends_so g f);
@@ -188,7 +188,7 @@ module _ {b : SystemView} (g : BootTogether b) where
     rest = ends_so g f;
   }
     where
-      at : (m : Node) → 1 ≤ count_of m b.alive → HasBooted g.at m b t
+      at : (m : Node) → 1 ≤ count_of m b.alive → HasBooted g.apps g.at m b t
       at m alive = record {
         place =
             ap (λ (v : LiveView). v.place) is
@@ -200,7 +200,8 @@ module _ {b : SystemView} (g : BootTogether b) where
             ap (λ (v : LiveView). keyfind row.0 v.controller.running) is
             ∙ found_placed (place_for b g.at m) row.0 (onto boots []) (still row.0 some)) boots (each_row boots);
         idle = λ d has.
-            subst (λ (e : DistView). (e.stand ≡ stand.Idle) × (e.mail ≡ []) × (e.remote_started ≡ []))
+            subst (λ (e : DistView). (e.stand ≡ stand.Idle) × (e.mail ≡ [])
+            × (e.remote_started ≡ rows_of b m g.at g.apps))
             (same_Some (dist_of b g.at m (last g m)) d (sym (ap (λ (v : LiveView). v.dist) is) ∙ has)) (refl, refl, refl);
         started = All-weaker (λ (row : App × Restart). 1 ≤ tally row.0 (map app_of boots))
             (λ (row : App × Restart). has_row row.0 (node_at t m).controller.started ≡ true)

@@ -336,6 +336,20 @@ abbrev pub news_of : Node → App → Token → ℕ
 news_of m a (news x c) = more_if (x.0 == m.0 && c.0 == a.0) 0
 news_of m a t = 0
 
+-- is it news to the node, of one of these applications?
+abbrev pub is_news : Node → (App → Bool) → Token → Bool
+is_news m q (news x c) = x.0 == m.0 && q c
+is_news m q t = false
+
+-- of which start it is news
+abbrev pub said_in : Token → List App
+said_in (news x c) = c ∷ []
+said_in t = []
+
+abbrev pub all_said : List Token → List App
+all_said [] = []
+all_said (t ∷ tokens) = said_in t ++ all_said tokens
+
 -- how many moves come of it by itself
 abbrev pub token_weight : Token → ℕ
 token_weight (news x c) = 1

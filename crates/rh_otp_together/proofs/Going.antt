@@ -31,6 +31,7 @@ use Rattle.rh_otp_crashes.proofs.Peace.{without}
 use Rattle.rh_otp_crashes.proofs.Turning.{node_is}
 use Rattle.rh_otp_joins.proofs.Lists.{more_if, count_of}
 use Rattle.rh_otp_together.specs.Together.{BootTogether}
+use Rattle.rh_otp_together.proofs.Apps.{swapped}
 use Rattle.rh_otp_together.proofs.Booting.{asked_for, ended_at, boots_on}
 use Rattle.rh_otp_together.proofs.Forms.{How, unbegun, asks, requests, stands, starts, learns, reports, answered, over, Far, live, Fine, Token, letter, h, onto, is_inner, is_voice, voices, inners, is_standing, tale_of}
 use Rattle.rh_otp_together.proofs.Moving.{comes_to, there_now, written}
@@ -231,11 +232,6 @@ chosen (x ∷ waiting) (suc place) within =
       left = ap (λ (l : List Slow). slow.Boot x ∷ l) rest.left;
       counts = λ k. ap (more_if (x.0 == k.0)) (rest.counts k) ∙ swapped (x.0 == k.0) (rest.node.0 == k.0) (count_of k rest.others);
     }
-  where
-    swapped : (c d : Bool) (j : ℕ) → more_if c (more_if d j) ≡ more_if d (more_if c j)
-    swapped true true j = refl
-    swapped true false j = refl
-    swapped false d j = refl
 
 is_waiting : (how : How) → is_unbegun how ≡ true → how ≡ unbegun
 is_waiting unbegun is = refl
@@ -376,6 +372,8 @@ module _ {b : SystemView} (g : BootTogether b) {left : ℕ} {u : SystemView} (f 
     sums = λ a away. refl;
     homes = λ a home. refl;
     told = λ a home. refl;
+    ordered = λ q strange. refl;
+    said = λ q own. refl;
     tells = refl;
     own = told_once m (nat_lt m.0 (node_count b.cluster));
   }))
@@ -427,6 +425,8 @@ module _ {b : SystemView} (g : BootTogether b) {left : ℕ} {u : SystemView} (f 
     sums = λ a away. refl;
     homes = λ a home. refl;
     told = λ a home. refl;
+    ordered = λ q strange. refl;
+    said = λ q own. refl;
     tells = sym (append-nil (tale_of b g.at m (f.far m).done));
     own = no_events m;
   }))

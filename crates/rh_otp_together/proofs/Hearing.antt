@@ -1,7 +1,8 @@
 -- The news of another node's start comes to a dist_ac: it notes it, or keeps it in its mailbox, or has waited for it.
-use Rattle.std.proofs.Common.{◌≡◌, ◌≢◌, ◌≤◌, ◌⊎◌, ◌+◌, ◌++◌, ◌==◌, ◌&&◌, ℕ, suc, Bool, true, false, List, [], ◌∷◌, map, Some, refl, sym, ap, subst, ◌∙◌, inl, inr, arith}
+use Rattle.std.proofs.Common.{◌≡◌, ◌≢◌, ◌≤◌, ◌⊎◌, ◌+◌, ◌++◌, ◌==◌, ◌&&◌, ℕ, suc, Bool, true, false, List, [], ◌∷◌, map, Some, refl, sym, ap, subst, ◌∙◌, inl, inr, arith, cond, filter}
 use Rattle.std.specs.Prelude.{All}
-use Rattle.std.proofs.lemmas.Bool.{cases_eq, eq-eqb, ne_eqb, false≢true}
+use Rattle.std.proofs.Math.Bool.{and-false}
+use Rattle.std.proofs.lemmas.Bool.{cases_eq, eq-eqb, ne_eqb, false≢true, cases_Bool}
 use Rattle.std.proofs.lemmas.List.{append-nil, map-append}
 use Rattle.std.proofs.lemmas.List.Elements.{All-nil, All-cons, All-append, All-weaker}
 use Rattle.rh_model.specs.declared.node.App.{App}
@@ -27,17 +28,23 @@ use Rattle.rh_otp_gathers.proofs.Stages.{drawn_all}
 use Rattle.rh_otp_gathers.proofs.Tokens.{total, Drawn, drawn_total}
 use Rattle.rh_otp_together.specs.Together.{BootTogether}
 use Rattle.rh_otp_together.proofs.Apps.{tally, tally_rows, tally_more, tallied_none, IsMarked}
-use Rattle.rh_otp_together.proofs.Forms.{How, unbegun, asks, requests, stands, starts, learns, reports, answered, over, Far, live, Fine, IsAwaited, Token, news, letter, h, d0, dists, asked_by, pends_by, some_app, appls_by, dist_of, may_itself, is_inner, is_voice, is_standing, news_of, token_weight, tale}
+use Rattle.rh_otp_together.proofs.Forms.{How, unbegun, asks, requests, stands, starts, learns, reports, answered, over, Far, live, Fine, IsAwaited, Token, news, letter, h, d0, dists, asked_by, pends_by, some_app, appls_by, dist_of, may_itself, is_inner, is_voice, is_standing, news_of, token_weight, tale, onto, is_news, all_said}
 use Rattle.rh_otp_together.proofs.Handling.{dist_with, note, notes}
 use Rattle.rh_otp_together.proofs.Deciding as deciding
 use Rattle.rh_otp_together.proofs.Lives.{came_once}
 use Rattle.rh_otp_together.proofs.Moving.{comes_to, there_now}
 use Rattle.rh_otp_together.proofs.Needs.{once_of}
-use Rattle.rh_otp_together.proofs.Stages.{IsHeld, changed, changed_here, changed_other, got, asked_of, IsOf, Stage, drawn_apart}
+use Rattle.rh_otp_together.proofs.Queues.{onto_more, skipped}
+use Rattle.rh_otp_together.proofs.Stages.{IsHeld, changed, changed_here, changed_other, got, asked_of, IsOf, Stage, drawn_apart, heard, row_app, come}
 use Rattle.rh_otp_together.proofs.Starting.{no_events}
 use Rattle.rh_otp_together.proofs.Stepping.{stepped}
-use Rattle.rh_otp_together.proofs.Telling.{idle_so}
+use Rattle.rh_otp_together.proofs.Telling.{idle_so, no_mail}
 use Rattle.rh_otp_together.proofs.Voices.{still_waiting}
+
+-- of the news to the node of what is left to one node these are the first
+abbrev pub IsNext : (App → Node) → Node → App → List Token → List Token → Type 0
+IsNext at m a tokens rest = (n : Node) (q : App → Bool) → ((c : App) → q c ≡ true → (at c).0 ≡ n.0) → q a ≡ true
+    → filter (is_news m q) tokens ≡ news m a ∷ filter (is_news m q) rest
 
 module _ {b : SystemView} (g : BootTogether b) {left : ℕ} {u : SystemView} (f : Stage b g.at (suc left) u) (m : Node) (a : App)
     (alive : 1 ≤ count_of m b.alive) (messages : List Envelope) (rest : List Token) (left_so : messages ≡ map (letter b g.at) rest)
@@ -107,11 +114,14 @@ module _ {b : SystemView} (g : BootTogether b) {left : ℕ} {u : SystemView} (f 
       stands_still n is (inr other) = ap (λ (y : Far). is_standing y.how) (changed_other m f.far next n other) ∙ is
 
   -- what is so of both
-  kept : (rows : List (App × Node)) (mail : List App) → Fine b g.at m (kept_with rows mail)
+  kept : (rows : List (App × Node)) (mail : List App) → IsNext g.at m a f.tokens rest
+      → onto mail (map row_app rows) ≡ a ∷ onto k.mail (map row_app k.rows)
+      → Fine b g.at m (kept_with rows mail)
       → ((c : App) → tally c mail + tally_rows c rows ≡ more_if (a.0 == c.0) 0 + tally c k.mail + tally_rows c k.rows)
       → arrived (process_at (h b g.at m) role.DistAc) (note g.at a) s ≡ with_node m (live b g.at m (kept_with rows mail)) s
       → Stage b g.at left (arrived (process_at (h b g.at m) role.DistAc) (note g.at a) s)
-  kept rows mail fine counts comes = stepped f m (arrived (process_at (h b g.at m) role.DistAc) (note g.at a) s) (once_of g m alive)
+  kept rows mail next_one in_front fine counts comes = stepped f m (arrived (process_at (h b g.at m) role.DistAc) (note g.at a) s)
+      (once_of g m alive)
       (record {
         next = kept_with rows mail;
         tokens = rest;
@@ -146,9 +156,32 @@ module _ {b : SystemView} (g : BootTogether b) {left : ℕ} {u : SystemView} (f 
         near = λ x c there other home. (let less : total (news_of x c) f.tokens ≡ total (news_of x c) rest = elsewhere_news x c other in
             omega (arith, less));
         apart = λ x c there other away. sym (elsewhere_news x c other);
+        says = [];
+        says_own = All-nil (λ (c : App). (g.at c).0 ≡ m.0);
+        ordered = λ n q apart strange. in_order q (λ is. next_one n q (λ c so. (strange c so).0) is) (cases_Bool (q a));
+        hears = λ x q there other.
+            ap all_said (sym (drawn_apart (is_news x q) (news m a) f.tokens rest drawn
+            (ap (λ (d : Bool). d && q a) (ne_eqb m.0 x.0 (λ is. other (sym is))))))
+            ∙ sym (append-nil (heard x q f.tokens));
+        says_so = λ q own. refl;
         tells = sym (append-nil (tale b g.at m k.how k.done));
         mine = no_events m;
       })
+    where
+      before : (App → Bool) → List App
+      before q = filter q (onto k.mail (map row_app k.rows))
+
+      in_order : (q : App → Bool) → (q a ≡ true → filter (is_news m q) f.tokens ≡ news m a ∷ filter (is_news m q) rest)
+          → (q a ≡ true) ⊎ (q a ≡ false) → come rest (kept_with rows mail) m q ≡ come f.tokens (f.far m) m q
+      in_order q first (inl is) =
+          ap (λ (l : List App). onto (heard m q rest) (filter q l)) in_front
+          ∙ ap (λ (d : Bool). onto (heard m q rest) (cond d (a ∷ before q) (before q))) is
+          ∙ ap (λ (l : List Token). onto (all_said l) (before q)) (sym (first is))
+      in_order q first (inr other) =
+          ap (λ (l : List App). onto (heard m q rest) (filter q l)) in_front
+          ∙ ap (onto (heard m q rest)) (skipped q a (onto k.mail (map row_app k.rows)) other)
+          ∙ ap (λ (l : List Token). onto (all_said l) (before q)) (sym (drawn_apart (is_news m q) (news m a) f.tokens rest drawn
+          (ap (λ (d : Bool). m.0 == m.0 && d) other ∙ and-false (m.0 == m.0))))
 
   abbrev v0 : LiveView
   v0 = live b g.at m (f.far m)
@@ -162,8 +195,11 @@ module _ {b : SystemView} (g : BootTogether b) {left : ℕ} {u : SystemView} (f 
       there_now g f m k alive refl messages ∙ (λ i. Some (record v0 { dist = Some (idle_so b g.at m k (f.fine m alive) quiet i) }))
 
   -- it takes whatever comes, and notes it
-  pub noted_now : is_standing k.how ≡ false → Stage b g.at left (arrived (process_at (h b g.at m) role.DistAc) (note g.at a) s)
-  noted_now quiet = kept ((a, g.at a) ∷ k.rows) k.mail fine
+  pub noted_now : IsNext g.at m a f.tokens rest → is_standing k.how ≡ false
+      → Stage b g.at left (arrived (process_at (h b g.at m) role.DistAc) (note g.at a) s)
+  noted_now next_one quiet = kept ((a, g.at a) ∷ k.rows) k.mail next_one
+      ((λ i. onto (no_mail b g.at m k (f.fine m alive) quiet i) (a ∷ map row_app k.rows))
+      ∙ (λ i. a ∷ onto (sym (no_mail b g.at m k (f.fine m alive) quiet) i) (map row_app k.rows))) fine
       (λ c. (let more : more_if (a.0 == c.0) (tally_rows c k.rows) ≡ more_if (a.0 == c.0) 0 + tally_rows c k.rows =
       plus (a.0 == c.0) (tally_rows c k.rows) in omega (arith, more)))
       (comes_to g f m k alive refl messages role.DistAc (note g.at a)
@@ -196,9 +232,9 @@ module _ {b : SystemView} (g : BootTogether b) {left : ℕ} {u : SystemView} (f 
       }
 
   -- it waits for the start of another application, and keeps this in its mailbox
-  pub mailed_now : (c : App) (r : Restart) → k.how ≡ stands c r → a.0 ≢ c.0
+  pub mailed_now : (c : App) (r : Restart) → IsNext g.at m a f.tokens rest → k.how ≡ stands c r → a.0 ≢ c.0
       → Stage b g.at left (arrived (process_at (h b g.at m) role.DistAc) (note g.at a) s)
-  mailed_now c r is other = kept k.rows (k.mail ++ a ∷ []) fine
+  mailed_now c r next_one is other = kept k.rows (k.mail ++ a ∷ []) next_one (onto_more k.mail (a ∷ []) (map row_app k.rows)) fine
       (λ x.
       (let both : tally x (k.mail ++ a ∷ []) ≡ tally x k.mail + tally x (a ∷ []) = tally_more x k.mail (a ∷ []) in omega (arith, both)))
       (comes_to g f m k alive refl messages role.DistAc (note g.at a)

@@ -41,6 +41,7 @@ boots_so m s answers e = record {
   short = e.short;
   distributed = e.distributed;
   leaves = e.leaves;
+  strangers = e.strangers;
 }
 
 with_answers : (s : SystemView) (answers : List Answered) → BootTogether s → BootTogether (record s { answers = answers })

@@ -1,10 +1,12 @@
 pub mod Apps
+pub mod Passing
 pub mod Controlling
 pub mod Booting
 pub mod Handling
 pub mod Deciding
 pub mod Forms
 pub mod Stages
+pub mod Queues
 pub mod Stepping
 pub mod Plain
 pub mod Needs
@@ -28,3 +30,5 @@ pub mod Law
 pub mod Rows
 pub mod Booted
 pub mod Sharing
+pub mod Three
+pub mod RowsStrangers

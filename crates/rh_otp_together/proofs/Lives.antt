@@ -1,5 +1,5 @@
 -- What nodes are like at each stage: who is alive, in which life, what is held, and how often each start is told of.
-use Rattle.std.proofs.Common.{◌≡◌, ◌≢◌, ◌≤◌, ◌⊎◌, ◌+◌, ◌++◌, ◌==◌, ◌&&◌, ◌||◌, ℕ, zero, suc, Bool, true, false, not, cond, unwrap_or, List, [], ◌∷◌, map, filter, Option, refl, sym, ap, subst, ◌∙◌, inl, inr, arith}
+use Rattle.std.proofs.Common.{◌≡◌, ◌≢◌, ◌≤◌, ◌⊎◌, ◌+◌, ◌++◌, ◌==◌, ◌&&◌, ◌||◌, ℕ, zero, suc, Bool, true, false, not, cond, unwrap_or, List, [], ◌∷◌, map, Option, refl, sym, ap, subst, ◌∙◌, inl, inr, arith}
 use Rattle.std.specs.List.{list_any}
 use Rattle.std.specs.Option.{option_and_then}
 use Rattle.std.specs.Prelude.{All}
@@ -25,6 +25,7 @@ use Rattle.rh_otp_together.specs.Together.{InOrder, BootTogether}
 use Rattle.rh_otp_together.proofs.Apps.{tally, none_tallied, tallied_none}
 use Rattle.rh_otp_together.proofs.Forms.{How, unbegun, asks, requests, stands, starts, learns, reports, answered, over, Far, live, Fine, app_of, current, is_dist, dists, asked_by, told_by, is_standing}
 use Rattle.rh_otp_together.proofs.Finishing.{once_more}
+use Rattle.rh_otp_together.proofs.Passing.{passing_few}
 use Rattle.rh_otp_together.proofs.Stages.{IsHeld, the_lock, got, asked_of, told_of, Stage, changed, changed_here, changed_other}
 
 -- ---- who is alive
@@ -158,30 +159,18 @@ held_then b far m next (x ∷ rows) all =
 
 -- ---- how often it was asked for, and told of
 
-fewer : (p : App → Bool) (c : App) (l : List App) → tally c (filter p l) ≤ tally c l
-fewer p c [] = omega arith
-fewer p c (x ∷ l) = by (p x) (x.0 == c.0) refl (fewer p c l)
-  where
-    by : (d e : Bool) → (x.0 == c.0) ≡ e → tally c (filter p l) ≤ tally c l
-        → tally c (cond d (x ∷ filter p l) (filter p l)) ≤ more_if e (tally c l)
-    by true true is less =
-        subst (λ (e : Bool). more_if e (tally c (filter p l)) ≤ suc (tally c l)) (sym is) (omega (arith, less))
-    by true false is less = subst (λ (e : Bool). more_if e (tally c (filter p l)) ≤ tally c l) (sym is) less
-    by false true is less = omega (arith, less)
-    by false false is less = less
-
 -- what isn't over was not asked for
 pub unasked : (b : SystemView) (m : Node) (at : App → Node) (a : App) (done : List (App × Restart)) → has_app a (map app_of done) ≡ false
     → tally a (dists b at m done) ≡ 0
 unasked b m at a done new =
     let none : tally a (map app_of done) ≡ 0 = none_tallied a (map app_of done) new in
-    let less : tally a (dists b at m done) ≤ tally a (map app_of done) = fewer (is_dist b at m) a (map app_of done) in
+    let less : tally a (dists b at m done) ≤ tally a (map app_of done) = passing_few (is_dist b at m) a (map app_of done) in
     omega (arith, none, less)
 
 module _ (b : SystemView) (at : App → Node) (m : Node) (k : Far) (fine : Fine b at m k) where
   of_dists : (c : App) → tally c (dists b at m k.done) ≤ 1
   of_dists c =
-      let less : tally c (dists b at m k.done) ≤ tally c (map app_of k.done) = fewer (is_dist b at m) c (map app_of k.done) in
+      let less : tally c (dists b at m k.done) ≤ tally c (map app_of k.done) = passing_few (is_dist b at m) c (map app_of k.done) in
       let few : tally c (map app_of k.done) ≤ 1 = fine.single c in
       omega (arith, less, few)
 

@@ -1,5 +1,5 @@
 -- A step by what a node sends to itself, and by no news of others.
-use Rattle.std.proofs.Common.{◌≡◌, ◌≢◌, ◌≤◌, ◌⊎◌, ◌+◌, ◌++◌, ◌==◌, ℕ, suc, Bool, false, cond, List, [], ◌∷◌, map, filter, Option, Some, refl, sym, ap, subst, ◌∙◌, inl, inr, arith}
+use Rattle.std.proofs.Common.{◌≡◌, ◌≢◌, ◌≤◌, ◌⊎◌, ◌+◌, ◌++◌, ◌==◌, ℕ, suc, Bool, false, cond, List, [], ◌∷◌, map, filter, Option, Some, refl, sym, ap, subst, ◌∙◌, inl, inr, arith, true}
 use Rattle.std.specs.Option.{option_and_then}
 use Rattle.std.specs.Prelude.{All}
 use Rattle.std.proofs.lemmas.Bool.{eq-eqb, ne_eqb}
@@ -17,9 +17,11 @@ use Rattle.rh_otp_crashes.proofs.Crossing.{same_node}
 use Rattle.rh_otp_joins.proofs.Lists.{count_of}
 use Rattle.rh_otp_gathers.proofs.Stages.{drawn_all}
 use Rattle.rh_otp_gathers.proofs.Tokens.{total, total_more, Drawn, drawn_total}
+use Rattle.rh_otp_together.specs.Together.{boots_at}
 use Rattle.rh_otp_together.proofs.Apps.{tally, tally_rows}
-use Rattle.rh_otp_together.proofs.Forms.{How, unbegun, asks, requests, stands, starts, learns, reports, answered, over, Far, live, Fine, Token, start, request, yes, there, report, answer, ran, news, letter, node_of, is_inner, is_voice, news_of, token_weight, voices, inners, tale, weight}
-use Rattle.rh_otp_together.proofs.Stages.{is_unbegun, IsHeld, got, asked_of, told_of, IsOf, Stage, drawn_apart, changed}
+use Rattle.rh_otp_together.proofs.Forms.{How, unbegun, asks, requests, stands, starts, learns, reports, answered, over, Far, live, Fine, Token, start, request, yes, there, report, answer, ran, news, letter, node_of, is_inner, is_voice, news_of, token_weight, voices, inners, tale, weight, onto, is_news, all_said}
+use Rattle.rh_otp_together.proofs.Queues.{none_of}
+use Rattle.rh_otp_together.proofs.Stages.{is_unbegun, IsHeld, got, asked_of, told_of, IsOf, Stage, drawn_apart, changed, heard, row_app, come}
 use Rattle.rh_otp_together.proofs.Stepping.{Step}
 
 -- it is the node's, and no news
@@ -56,6 +58,16 @@ no_news m k c (answer x) mine = refl
 no_news m k c (ran x a) mine = refl
 no_news m k c (news x a) (is, none) = absurd (omega (arith, none))
 
+pub never_news : (m k : Node) (q : App → Bool) (t : Token) → IsMine m t → is_news k q t ≡ false
+never_news m k q (start x a r) mine = refl
+never_news m k q (request x a) mine = refl
+never_news m k q (yes x a) mine = refl
+never_news m k q (there x a) mine = refl
+never_news m k q (report x a) mine = refl
+never_news m k q (answer x) mine = refl
+never_news m k q (ran x a) mine = refl
+never_news m k q (news x a) (is, none) = absurd (omega (arith, none))
+
 pub all_zero : (f : Token → ℕ) (P : Token → Type 0) → ((t : Token) → P t → f t ≡ 0) → (tokens : List Token) → All P tokens
     → total f tokens ≡ 0
 all_zero f P none [] all = refl
@@ -66,10 +78,7 @@ all_zero f P none (t ∷ tokens) all =
 
 pub none_pass : (p : Token → Bool) (P : Token → Type 0) → ((t : Token) → P t → p t ≡ false) → (tokens : List Token) → All P tokens
     → filter p tokens ≡ []
-none_pass p P fails [] all = refl
-none_pass p P fails (t ∷ tokens) all =
-    ap (λ (c : Bool). cond c (t ∷ filter p tokens) (filter p tokens)) (fails t (All-head P t tokens all))
-    ∙ none_pass p P fails tokens (All-tail P t tokens all)
+none_pass p P fails tokens all = none_of p tokens (All-weaker P (λ (t : Token). p t ≡ false) fails tokens all)
 
 -- ---- what is left
 
@@ -140,6 +149,10 @@ pub record Plain {b : SystemView} {at : App → Node} {left : ℕ} {u : SystemVi
       ≡ tally a old.mail + tally_rows a old.rows + tally a (asked_of b at m old)
   pub homes : (a : App) → (at a).0 ≡ m.0 → tally a next.mail + tally_rows a next.rows ≡ tally a old.mail + tally_rows a old.rows
   pub told : (a : App) → (at a).0 ≡ m.0 → tally a (told_of b at m next) ≡ tally a (told_of b at m old)
+  pub ordered : (q : App → Bool) → ((c : App) → q c ≡ true → boots_at b m c ≡ false)
+      → filter q (onto next.mail (map row_app next.rows)) ≡ filter q (onto old.mail (map row_app old.rows))
+  pub said : (q : App → Bool) → ((c : App) → q c ≡ true → (at c).0 ≡ m.0)
+      → filter q (told_of b at m next) ≡ filter q (told_of b at m old)
   pub tells : tale b at m next.how next.done ≡ tale b at m old.how old.done ++ seen
   pub own : All (λ (e : Event). node_told e ≡ Some m) seen
 
@@ -188,12 +201,22 @@ plainly {b} {at} {left} {u} f m v p = record {
       ap (λ (x : Far). tally a (told_of b at m x)) p.was in
       omega (arith, news_same, same, before));
   apart = λ k a alive other away. same_news k a;
+  says = [];
+  says_own = All-nil (λ (c : App). (at c).0 ≡ m.0);
+  ordered = λ n q apart strange.
+      (λ i. onto (all_said (no_more m q i)) (p.ordered q (λ c is. (strange c is).1) i))
+      ∙ ap (λ (x : Far). come f.tokens x m q) (sym p.was);
+  hears = λ k q there_is apart. ap all_said (no_more k q) ∙ sym (append-nil (heard k q f.tokens));
+  says_so = λ q own. p.said q own ∙ ap (λ (x : Far). filter q (told_of b at m x)) (sym p.was);
   tells = p.tells ∙ ap (λ (x : Far). tale b at m x.how x.done ++ p.seen) (sym p.was);
   mine = p.own;
 }
   where
     same_news : (k : Node) (a : App) → total (news_of k a) (p.rest ++ p.more) ≡ total (news_of k a) f.tokens
     same_news k a = more_total m (news_of k a) f.tokens p.rest p.more (λ t mine. no_news m k a t mine) p.left_by p.mine
+
+    no_more : (k : Node) (q : App → Bool) → filter (is_news k q) (p.rest ++ p.more) ≡ filter (is_news k q) f.tokens
+    no_more k q = more_filter m (is_news k q) f.tokens p.rest p.more (λ t mine. never_news m k q t mine) p.left_by p.mine
 
 -- ---- where a node is
 

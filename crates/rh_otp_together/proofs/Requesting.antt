@@ -2,7 +2,7 @@
 use Rattle.std.proofs.Common.{◌≡◌, ◌≢◌, ◌≤◌, ◌⊎◌, ◌+◌, ◌++◌, ◌==◌, ◌||◌, ℕ, zero, suc, Bool, true, false, cond, unwrap_or, List, [], ◌∷◌, map, filter, slice_get, slice_set, Some, refl, sym, ap, subst, ◌∙◌, inl, inr, arith}
 use Rattle.std.specs.Prelude.{All}
 use Rattle.std.proofs.Math.Bool.{or-true}
-use Rattle.std.proofs.lemmas.Bool.{cases_eq, eq-eqb, ne_eqb, false≢true}
+use Rattle.std.proofs.lemmas.Bool.{cases_eq, eq-eqb, ne_eqb, false≢true, false_from_ne_true}
 use Rattle.std.proofs.lemmas.List.{append-nil, map-append}
 use Rattle.std.proofs.lemmas.List.Elements.{All-nil, All-cons, All-append, All-head, All-tail, All-weaker, filter-append}
 use Rattle.rh_model.specs.declared.node.App.{App}
@@ -41,7 +41,7 @@ use Rattle.rh_otp_joins.proofs.Lists.{more_if, count_of}
 use Rattle.rh_otp_gathers.specs.Gathers.{times}
 use Rattle.rh_otp_gathers.proofs.Opening.{counts_so}
 use Rattle.rh_otp_gathers.proofs.Tokens.{Drawn}
-use Rattle.rh_otp_together.specs.Together.{BootTogether, LeavesTo}
+use Rattle.rh_otp_together.specs.Together.{boots_at, BootTogether, LeavesTo}
 use Rattle.rh_otp_together.proofs.Apps.{same_app, tally, tally_rows, tally_other, tallied_none, not_found, found_at, fewer_rows, same_rows, still_marked}
 use Rattle.rh_otp_together.proofs.Deciding as deciding
 use Rattle.rh_otp_together.proofs.Deciding.{with_appl, standing_in, Leaves, request_so}
@@ -50,8 +50,10 @@ use Rattle.rh_otp_together.proofs.Handling.{dist_with, turn_from}
 use Rattle.rh_otp_together.proofs.Lives.{awake_so, own_is_free, held_more, held_then, unasked}
 use Rattle.rh_otp_together.proofs.Moving.{comes_to, there_now}
 use Rattle.rh_otp_together.proofs.Needs.{each_of, once_of, up_of, dist_so}
+use Rattle.rh_otp_together.proofs.Passing.{all_passing}
 use Rattle.rh_otp_together.proofs.Plain.{plainly, voices_pass, voices_mine, voices_no_inner}
-use Rattle.rh_otp_together.proofs.Stages.{is_unbegun, IsHeld, the_lock, got, told_of, Stage, changed, drawn_apart}
+use Rattle.rh_otp_together.proofs.Queues.{skipped, stands_in, kept_rows}
+use Rattle.rh_otp_together.proofs.Stages.{is_unbegun, IsHeld, the_lock, got, told_of, Stage, changed, drawn_apart, row_app}
 use Rattle.rh_otp_together.proofs.Starting.{no_events}
 use Rattle.rh_otp_together.proofs.Stepping.{stepped}
 use Rattle.rh_otp_together.proofs.Voices.{still_waiting}
@@ -174,22 +176,33 @@ module _ {b : SystemView} (g : BootTogether b) {left : ℕ} {u : SystemView} (f 
     own_same : own_at s m ≡ own_at b m
     own_same = ap (λ (y : SystemView). own_at y m) f.same
 
-    in_list : filter (controls (own_at b m)) (map (λ (row : App × Restart). row.0) (onto k.done ((a, r) ∷ k.rest))) ≡ g.apps
+    in_list : filter (controls (own_at b m)) (map (λ (row : App × Restart). row.0) (onto k.done ((a, r) ∷ k.rest)))
+        ≡ filter (boots_at b m) g.apps
     in_list =
         ap (λ (l : List (App × Restart)). filter (controls (own_at b m)) (map (λ (row : App × Restart). row.0) l)) (sym fine.boots)
         ∙ (each_of g m alive).distributed
+
+    -- what is so of each application that it boots is so of this one
+    own_so : (P : App → Type 0) → All (λ (c : App). boots_at b m c ≡ true → P c) g.apps → P a
+    own_so P all =
+        so_of_it P (controls (own_at b m)) k.done a r k.rest
+        (subst (All P) (sym in_list) (all_passing P (boots_at b m) g.apps all)) fine.so
+
+    booted : boots_at b m a ≡ true
+    booted = ap (λ (l : List (App × Restart)). has_app a (map (λ (row : App × Restart). row.0) l)) fine.boots ∙ stands_in a r k.done k.rest
 
     leaves : Leaves (own_at s m) m a (d0 b g.at m) x
     leaves =
         subst (λ (o : OwnView). Leaves o m a (d0 b g.at m) x) (sym own_same)
         (subst (λ (d : DistView). Leaves (own_at b m) m a d x) (sym (dist_so g m alive))
-        (so_of_it (λ (c : App). LeavesTo m c (each_of g m alive).dist b (g.at c)) (controls (own_at b m)) k.done a r k.rest
-        (subst (All (λ (c : App). LeavesTo m c (each_of g m alive).dist b (g.at c))) (sym in_list) (each_of g m alive).leaves) fine.so))
+        (own_so (λ (c : App). LeavesTo m c (each_of g m alive).dist b (g.at c)) (each_of g m alive).leaves))
 
     runner : 1 ≤ count_of x b.alive
-    runner = subst (λ (j : ℕ). 1 ≤ j) (sym (counts_so x b.alive))
-        (so_of_it (λ (c : App). 1 ≤ times (g.at c) b.alive) (controls (own_at b m)) k.done a r k.rest
-        (subst (All (λ (c : App). 1 ≤ times (g.at c) b.alive)) (sym in_list) g.runners) fine.so)
+    runner = subst (λ (j : ℕ). 1 ≤ j) (sym (counts_so x b.alive)) (own_so (λ (c : App). 1 ≤ times (g.at c) b.alive)
+        (All-weaker IsRunner (λ (c : App). boots_at b m c ≡ true → 1 ≤ times (g.at c) b.alive) (λ c so own. so.0) g.apps g.runners))
+      where
+        IsRunner : App → Type 0
+        IsRunner c = (1 ≤ times (g.at c) b.alive) × (boots_at b (g.at c) c ≡ true)
 
     abbrev v0 : LiveView
     v0 = live b g.at m old
@@ -224,6 +237,10 @@ module _ {b : SystemView} (g : BootTogether b) {left : ℕ} {u : SystemView} (f 
         → ((c : App) → (g.at c).0 ≡ m.0 → tally_rows c rows ≡ tally_rows c k.rows)
         → ((c : App) → (g.at c).0 ≡ m.0 → tally c (told_of b g.at m (record (f.far m) { how = how; ran = []; mail = []; rows = rows }))
         ≡ tally c asked)
+        → ((q : App → Bool) → ((c : App) → q c ≡ true → boots_at b m c ≡ false)
+        → filter q (map row_app rows) ≡ filter q (map row_app k.rows))
+        → ((q : App → Bool) → ((c : App) → q c ≡ true → (g.at c).0 ≡ m.0)
+        → filter q (told_of b g.at m (record (f.far m) { how = how; ran = []; mail = []; rows = rows })) ≡ filter q asked)
         → tale b g.at m how k.done ≡ tale_of b g.at m k.done
         → arrived (process_at (h b g.at m) role.DistAc) (message.StartRequest a) s
         ≡ record (with_node m (live b g.at m (record (f.far m) { how = how; ran = []; mail = []; rows = rows })) u) {
@@ -231,7 +248,7 @@ module _ {b : SystemView} (g : BootTogether b) {left : ℕ} {u : SystemView} (f 
           locks = locks;
         }
         → Over
-    further how rows locks so held begun quiet weighs sums homes told tells comes =
+    further how rows locks so held begun quiet weighs sums homes told ordered said tells comes =
         stepped f m (arrived (process_at (h b g.at m) role.DistAc) (message.StartRequest a) s) (once_of g m alive)
         (plainly f m (arrived (process_at (h b g.at m) role.DistAc) (message.StartRequest a) s) (record {
           old = old;
@@ -266,6 +283,8 @@ module _ {b : SystemView} (g : BootTogether b) {left : ℕ} {u : SystemView} (f 
               sums c away in omega (arith, same));
           homes = λ c home. (let same : tally_rows c rows ≡ tally_rows c k.rows = homes c home in omega (arith, same));
           told = told;
+          ordered = ordered;
+          said = said;
           tells = tells ∙ sym (append-nil (tale_of b g.at m k.done));
           own = no_events m;
         }))
@@ -298,7 +317,7 @@ module _ {b : SystemView} (g : BootTogether b) {left : ℕ} {u : SystemView} (f 
         omega (arith, much))
         (λ c away. ap (λ (j : ℕ). tally_rows c k.rows + j)
         (tally_other c a asked (λ same. away (ap (λ (y : App). (g.at y).0) (sym (same_app a c same)) ∙ mine))))
-        (λ c home. refl) (λ c home. refl) refl
+        (λ c home. refl) (λ c home. refl) (λ q strange. refl) (λ q own. refl) refl
         (takes (deciding.answered s.cluster (own_at s m) m v0.life (d0 b g.at m) k.rows asked appls a x reply.StartIt standing.RunWaiting)
         (deciding.chooses_here s.cluster (own_at s m) m v0.life (d0 b g.at m) k.rows asked appls a x unknown new
         (not_found a k.rows no_row) first_here)
@@ -357,7 +376,9 @@ module _ {b : SystemView} (g : BootTogether b) {left : ℕ} {u : SystemView} (f 
         omega (arith, less, both)))
         (λ c home. sym (fewer_rows a c k.rows some
         ∙ ap (λ (d : Bool). more_if d (tally_rows c (keydelete a k.rows))) (ne_eqb a.0 c.0 (not_itself other c home))))
-        (λ c home. tally_other c a asked (not_itself other c home)) refl
+        (λ c home. tally_other c a asked (not_itself other c home))
+        (λ q strange. kept_rows q a k.rows (false_from_ne_true (q a) (λ so. false≢true (sym (strange a so) ∙ booted))))
+        (λ q own. skipped q a asked (false_from_ne_true (q a) (λ so. other (own a so)))) refl
         (takes (deciding.answered s.cluster (own_at s m) m v0.life (d0 b g.at m) k.rows asked appls a x (reply.Started x)
         (standing.Distributed x))
         (deciding.finds_there s.cluster (own_at s m) m v0.life (d0 b g.at m) k.rows asked appls a x unknown new
@@ -408,7 +429,7 @@ module _ {b : SystemView} (g : BootTogether b) {left : ℕ} {u : SystemView} (f 
     }) (held_more b f.far m (record (f.far m) { how = stands a r; ran = []; mail = []; rows = k.rows }) u.locks alive refl f.locks) refl
         refl
         (let much : request_weight b g.at m a ≡ 3 = light other in omega (arith, much))
-        (λ c away. refl) (λ c home. refl) (λ c home. refl) refl
+        (λ c away. refl) (λ c home. refl) (λ c home. refl) (λ q strange. refl) (λ q own. refl) refl
         (takes (record (turn_from s.cluster (own_at s m) m v0.life (dist_of b g.at m old)) {
           state = st (may_itself b g.at m a) [];
           out = deciding.waits_out s.cluster (own_at s m) m v0.life (d0 b g.at m) k.rows asked appls a x (may_itself b g.at m a);

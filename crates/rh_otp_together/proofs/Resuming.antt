@@ -1,7 +1,8 @@
 -- The news for which a dist_ac has waited comes: it answers its controller, and takes what has come meanwhile.
-use Rattle.std.proofs.Common.{◌≡◌, ◌≢◌, ◌≤◌, ◌⊎◌, ◌+◌, ◌++◌, ◌==◌, ℕ, suc, Bool, true, false, cond, List, [], ◌∷◌, map, filter, length, Some, refl, sym, ap, subst, ◌∙◌, inl, inr, arith}
+use Rattle.std.proofs.Common.{◌≡◌, ◌≢◌, ◌≤◌, ◌⊎◌, ◌+◌, ◌++◌, ◌==◌, ℕ, suc, Bool, true, false, cond, List, [], ◌∷◌, map, filter, length, Some, refl, sym, ap, subst, ◌∙◌, inl, inr, arith, ◌&&◌}
 use Rattle.std.specs.Prelude.{All}
-use Rattle.std.proofs.lemmas.Bool.{cases_eq, eq-eqb, ne_eqb}
+use Rattle.std.proofs.Math.Bool.{and-false}
+use Rattle.std.proofs.lemmas.Bool.{cases_eq, eq-eqb, ne_eqb, false≢true, false_from_ne_true}
 use Rattle.std.proofs.lemmas.List.{append-nil, map-append, length-append, length-map}
 use Rattle.std.proofs.lemmas.List.Elements.{All-nil, All-cons, All-append, All-weaker, filter-append}
 use Rattle.rh_model.specs.declared.node.App.{App}
@@ -41,17 +42,18 @@ use Rattle.rh_otp_starts.proofs.Requests.{frees, its_reply}
 use Rattle.rh_otp_joins.proofs.Lists.{more_if, count_of}
 use Rattle.rh_otp_gathers.proofs.Stages.{drawn_all}
 use Rattle.rh_otp_gathers.proofs.Tokens.{total, total_more, Drawn, drawn_total}
-use Rattle.rh_otp_together.specs.Together.{BootTogether}
+use Rattle.rh_otp_together.specs.Together.{BootTogether, boots_at}
 use Rattle.rh_otp_together.proofs.Apps.{same_app, tally, tally_rows, tally_other, tallied_none, same_rows, IsMarked}
 use Rattle.rh_otp_together.proofs.Deciding as deciding
 use Rattle.rh_otp_together.proofs.Deciding.{with_appl}
-use Rattle.rh_otp_together.proofs.Forms.{stands, learns, Far, live, Fine, Token, there, news, letter, h, d0, dists, asked_by, appls_by, dist_of, may_itself, is_inner, is_voice, news_of, token_weight, voices, inners, tale, tale_of, weight}
+use Rattle.rh_otp_together.proofs.Forms.{stands, learns, Far, live, Fine, Token, there, news, letter, h, d0, dists, asked_by, appls_by, dist_of, may_itself, is_inner, is_voice, news_of, token_weight, voices, inners, tale, tale_of, weight, onto, is_news, all_said}
 use Rattle.rh_otp_together.proofs.Handling.{dist_with, turn_from, note, noted, handles_at, has_next_so, IsLastOf, last_of_all, absorbs}
 use Rattle.rh_otp_together.proofs.Hearing.{nowhere_else, new_to_it, other_news, elsewhere_news}
 use Rattle.rh_otp_together.proofs.Lives.{came_once, held_then}
 use Rattle.rh_otp_together.proofs.Moving.{comes_to, there_now}
 use Rattle.rh_otp_together.proofs.Needs.{once_of}
-use Rattle.rh_otp_together.proofs.Stages.{is_unbegun, IsHeld, the_lock, got, asked_of, told_of, IsOf, Stage, drawn_apart}
+use Rattle.rh_otp_together.proofs.Queues.{skipped, stands_in, noted_apps}
+use Rattle.rh_otp_together.proofs.Stages.{is_unbegun, IsHeld, the_lock, got, asked_of, told_of, IsOf, Stage, drawn_apart, heard, row_app, come}
 use Rattle.rh_otp_together.proofs.Starting.{no_events}
 use Rattle.rh_otp_together.proofs.Stepping.{Step, stepped}
 use Rattle.rh_otp_together.proofs.Voices.{still_waiting}
@@ -284,6 +286,22 @@ module _ {b : SystemView} (g : BootTogether b) {left : ℕ} {u : SystemView} (f 
       noted_rows g.at c k.mail (keydelete a k.rows)
       ∙ ap (λ (l : List (App × Node)). tally c k.mail + tally_rows c l) (same_rows a k.rows no_row)
 
+  booted : boots_at b m a ≡ true
+  booted = ap (λ (l : List (App × Restart)). has_app a (map (λ (row : App × Restart). row.0) l)) fine.boots ∙ stands_in a r k.done k.rest
+
+  -- of others nothing more is on its way, and nothing less
+  no_more : (n : Node) (q : App → Bool) → is_news n q (news m a) ≡ false
+      → filter (is_news n q) (rest ++ there m a ∷ []) ≡ filter (is_news n q) f.tokens
+  no_more n q fails =
+      filter-append (is_news n q) rest (there m a ∷ [])
+      ∙ (λ i. sym (drawn_apart (is_news n q) (news m a) f.tokens rest drawn fails) i ++ [])
+      ∙ append-nil (filter (is_news n q) f.tokens)
+
+  rows_apps : map row_app rows ≡ onto k.mail (map row_app k.rows)
+  rows_apps =
+      noted_apps g.at k.mail (keydelete a k.rows)
+      ∙ ap (λ (l : List (App × Node)). onto k.mail (map row_app l)) (same_rows a k.rows no_row)
+
   one_further : Step f m (arrived (process_at (h b g.at m) role.DistAc) (note g.at a) s)
   one_further = record {
     next = next;
@@ -355,6 +373,19 @@ module _ {b : SystemView} (g : BootTogether b) {left : ℕ} {u : SystemView} (f 
         let now : tally c (a ∷ asked) ≡ tally c asked = tally_other c a asked (not_itself c home) in
         omega (arith, less, same, before, now));
     apart = λ n c there_is apart away. more_news n c ∙ sym (elsewhere_news g f m a alive messages rest left_so drawn n c apart);
+    says = [];
+    says_own = All-nil (λ (c : App). (g.at c).0 ≡ m.0);
+    ordered = λ n q apart strange.
+        (λ i. onto (all_said (no_more m q
+        (ap (λ (c : Bool). m.0 == m.0 && c) (false_from_ne_true (q a) (λ so. false≢true (sym (strange a so).1 ∙ booted)))
+        ∙ and-false (m.0 == m.0)) i))
+        (filter q (rows_apps i)))
+        ∙ ap (λ (y : Far). come f.tokens y m q) (sym was);
+    hears = λ n q there_is apart.
+        ap all_said (no_more n q (ap (λ (c : Bool). c && q a) (ne_eqb m.0 n.0 (λ same. apart (sym same)))))
+        ∙ sym (append-nil (heard n q f.tokens));
+    says_so = λ q own.
+        skipped q a asked (false_from_ne_true (q a) (λ so. other (own a so))) ∙ ap (λ (y : Far). filter q (told_of b g.at m y)) (sym was);
     tells = sym (append-nil (tale_of b g.at m k.done)) ∙ (λ i. tale b g.at m (sym is i) k.done ++ []);
     mine = no_events m;
   }

@@ -1,6 +1,6 @@
 -- A state that the law is of: two nodes that have waited for one another have synchronised, and both boot scripts are to begin. Each is to
 -- start two applications that are distributed, of which the lists prefer different nodes, and one of its own.
-use Rattle.std.proofs.Common.{◌≡◌, ◌≢◌, ◌≤◌, ◌⊎◌, ◌==◌, ℕ, zero, suc, Bool, true, false, cond, List, [], ◌∷◌, length, unwrap_or, is_some, slice_get, Option, Some, None, refl, sym, ap, subst, ◌∙◌, inl, inr, arith}
+use Rattle.std.proofs.Common.{◌≡◌, ◌≢◌, ◌≤◌, ◌⊎◌, ◌==◌, ℕ, zero, suc, Bool, true, false, cond, List, [], ◌∷◌, filter, length, unwrap_or, is_some, slice_get, Option, Some, None, refl, sym, ap, subst, ◌∙◌, inl, inr, arith}
 use Rattle.std.specs.Prelude.{All, if◌then◌else◌}
 use Rattle.std.proofs.lemmas.Bool.{cases_eq, ne_eqb, false≢true}
 use Rattle.std.proofs.lemmas.List.Elements.{All-nil, All-cons}
@@ -53,12 +53,13 @@ use Rattle.rh_otp_laws.proofs.Nodes.{alive_is_there}
 use Rattle.rh_otp_crashes.proofs.Crossing.{same_node}
 use Rattle.rh_otp_stops.proofs.Rows.{n1, n2, d1, l1, no_net, quiet, dist_of}
 use Rattle.rh_otp_gathers.specs.Gathers.{times}
-use Rattle.rh_otp_together.specs.Together.{IsBefore, InOrder, distributed_of, LeavesTo, IsToBoot, BootTogether}
+use Rattle.rh_otp_together.specs.Together.{IsBefore, InOrder, distributed_of, boots_at, strangers_of, LeavesTo, IsToBoot, BootTogether}
+use Rattle.rh_otp_together.proofs.Sharing.{few_left_to_one}
 
 -- ---- the cluster
 
 -- the other application that is distributed
-abbrev d2 : App
+abbrev pub d2 : App
 d2 = app_numbered 2
 
 -- it waits for these, and starts all three applications
@@ -115,15 +116,15 @@ abbrev pub gathered : SystemView
 gathered = settled 7 FirstComes (booted n2 one_waits)
 
 -- where each is to run
-abbrev runs_at : App → Node
+abbrev pub runs_at : App → Node
 runs_at a = if a.0 == 0 then n1 else n2
 
-abbrev shared : List App
+abbrev pub shared : List App
 shared = d1 ∷ d2 ∷ []
 
 -- ---- what the prover computes of it
 
-abbrev flags : List Bool
+abbrev pub flags : List Bool
 flags = true ∷ false ∷ true ∷ []
 
 record At (m other : Node) (s : SystemView) : Type 0 where
@@ -245,11 +246,11 @@ clear s = record s { cluster = cluster; files = file ∷ file ∷ [] }
 is_clear : (s : SystemView) → Both s → clear s ≡ s
 is_clear s so = λ i. record s { cluster = sym so.cluster i; files = sym so.files i }
 
-has_it : (o : Option DistView) (d : DistView) → is_some o ≡ true → o ≡ Some (unwrap_or o d)
+pub has_it : (o : Option DistView) (d : DistView) → is_some o ≡ true → o ≡ Some (unwrap_or o d)
 has_it None d is = absurd (false≢true is)
 has_it (Some e) d is = refl
 
-unknown_each : (a : App) → (unwrap_or (slice_get (unknown_appl ∷ unknown_appl ∷ unknown_appl ∷ []) a.0) unknown_appl).standing
+pub unknown_each : (a : App) → (unwrap_or (slice_get (unknown_appl ∷ unknown_appl ∷ unknown_appl ∷ []) a.0) unknown_appl).standing
     ≡ standing.Undefined
 unknown_each a = by a.0
   where
@@ -264,8 +265,9 @@ record Lists (m : Node) (s : SystemView) (d : DistView) : Type 0 where
   has_dist : has_dist_at s m ≡ true
   in_order : InOrder s m [] (boot_of s.cluster m)
   few : length (boot_of s.cluster m) ≡ 3
-  distributed : distributed_of (own_at s m) (boot_of s.cluster m) ≡ shared
-  leaves : All (λ (a : App). LeavesTo m a d s (runs_at a)) shared
+  distributed : distributed_of (own_at s m) (boot_of s.cluster m) ≡ filter (boots_at s m) shared
+  leaves : All (λ (a : App). boots_at s m a ≡ true → LeavesTo m a d s (runs_at a)) shared
+  strangers : strangers_of s m shared ≡ []
 
 abbrev knowing : DistView → DistView
 knowing d = record d { may = flags ∷ flags ∷ [] }
@@ -286,10 +288,12 @@ first_lists s d = record {
   );
   few = refl;
   distributed = refl;
-  leaves = All-cons (λ (a : App). LeavesTo n1 a (knowing d) (clear s) (runs_at a)) d1 (d2 ∷ []) (inl (refl, refl))
-      (All-cons (λ (a : App). LeavesTo n1 a (knowing d) (clear s) (runs_at a)) d2 [] (inl (refl, refl))
-      (All-nil (λ (a : App). LeavesTo n1 a (knowing d) (clear s) (runs_at a))));
+  leaves = All-cons Leaves d1 (d2 ∷ []) (λ boots. inl (refl, refl)) (All-cons Leaves d2 [] (λ boots. inl (refl, refl)) (All-nil Leaves));
+  strangers = refl;
 }
+  where
+    Leaves : App → Type 0
+    Leaves a = boots_at (clear s) n1 a ≡ true → LeavesTo n1 a (knowing d) (clear s) (runs_at a)
 
 second_lists : (s : SystemView) (d : DistView) → Lists n2 (clear s) (knowing d)
 second_lists s d = record {
@@ -307,10 +311,12 @@ second_lists s d = record {
   );
   few = refl;
   distributed = refl;
-  leaves = All-cons (λ (a : App). LeavesTo n2 a (knowing d) (clear s) (runs_at a)) d1 (d2 ∷ []) (inl (refl, refl))
-      (All-cons (λ (a : App). LeavesTo n2 a (knowing d) (clear s) (runs_at a)) d2 [] (inl (refl, refl))
-      (All-nil (λ (a : App). LeavesTo n2 a (knowing d) (clear s) (runs_at a))));
+  leaves = All-cons Leaves d1 (d2 ∷ []) (λ boots. inl (refl, refl)) (All-cons Leaves d2 [] (λ boots. inl (refl, refl)) (All-nil Leaves));
+  strangers = refl;
 }
+  where
+    Leaves : App → Type 0
+    Leaves a = boots_at (clear s) n2 a ≡ true → LeavesTo n2 a (knowing d) (clear s) (runs_at a)
 
 is_to_boot : (m other : Node) (s : SystemView) → Both s → At m other s → ((d : DistView) → Lists m (clear s) (knowing d))
     → ((x : Node) → times x (other ∷ m ∷ []) ≡ times x s.alive)
@@ -341,6 +347,8 @@ is_to_boot m other s so at clearly all others = record {
   short = (let few : length (boot_of s.cluster m) ≡ 3 = lists.few in omega (arith, few));
   distributed = lists.distributed;
   leaves = lists.leaves;
+  strangers = few_left_to_one runs_at (strangers_of s m shared)
+      (let none : length (strangers_of s m shared) ≡ 0 = ap (λ (l : List App). length l) lists.strangers in omega (arith, none));
 }
   where
     lists : Lists m s (dist_of s m)
@@ -354,8 +362,11 @@ boots_together s so one two = record {
   apps = shared;
   at = runs_at;
   each = λ m some. by m (which m) (subst (λ (l : List Node). 1 ≤ times m l) so.alive some);
-  runners = All-cons IsAlive d1 (d2 ∷ []) (subst (λ (l : List Node). 1 ≤ times n1 l) (sym so.alive) (omega arith))
-      (All-cons IsAlive d2 [] (subst (λ (l : List Node). 1 ≤ times n2 l) (sym so.alive) (omega arith)) (All-nil IsAlive));
+  runners = All-cons IsRunner d1 (d2 ∷ [])
+      (subst (λ (l : List Node). 1 ≤ times n1 l) (sym so.alive) (omega arith), ap (λ (c : ClusterView). boots_by c n1 d1) so.cluster)
+      (All-cons IsRunner d2 []
+      (subst (λ (l : List Node). 1 ≤ times n2 l) (sym so.alive) (omega arith), ap (λ (c : ClusterView). boots_by c n2 d2) so.cluster)
+      (All-nil IsRunner));
   nodes = n2 ∷ n1 ∷ [];
   slow = so.slow;
   all = λ m. turned m ∙ ap (times m) (sym so.alive);
@@ -364,8 +375,11 @@ boots_together s so one two = record {
   locks = so.locks;
 }
   where
-    IsAlive : App → Type 0
-    IsAlive a = 1 ≤ times (runs_at a) s.alive
+    IsRunner : App → Type 0
+    IsRunner a = (1 ≤ times (runs_at a) s.alive) × (boots_at s (runs_at a) a ≡ true)
+
+    boots_by : ClusterView → Node → App → Bool
+    boots_by c m a = boots_at (record s { cluster = c }) m a
 
     not_one : (x : Node) → x.0 ≢ 0 → 1 ≤ times x s.alive → x ≡ n2
     not_one x apart some = at (which x)

@@ -3,7 +3,7 @@ use Rattle.std.proofs.Common.{◌≡◌, ◌≢◌, ◌≤◌, ◌⊎◌, ◌+�
 use Rattle.std.proofs.Math.Bool.{or-true}
 use Rattle.std.proofs.lemmas.Bool.{cases_eq, eq-eqb, ne_eqb}
 use Rattle.std.proofs.lemmas.List.{append-nil}
-use Rattle.std.proofs.lemmas.List.Elements.{All-append, filter-append}
+use Rattle.std.proofs.lemmas.List.Elements.{All-append, filter-append, All-cons, All-nil}
 use Rattle.rh_model.specs.declared.node.App.{App}
 use Rattle.rh_model.specs.declared.node.Node.{Node}
 use Rattle.rh_otp_model.specs.declared.message.Message.TheVariants as message
@@ -32,12 +32,13 @@ use Rattle.rh_otp_gathers.proofs.Tokens.{total, total_more, Drawn, drawn_total}
 use Rattle.rh_otp_together.specs.Together.{BootTogether}
 use Rattle.rh_otp_together.proofs.Apps.{tally, same_app}
 use Rattle.rh_otp_together.proofs.Deciding.{with_appl}
-use Rattle.rh_otp_together.proofs.Forms.{How, unbegun, asks, requests, stands, starts, learns, reports, answered, over, Far, live, Fine, Token, ran, news, letter, h, d0, is_mine, asked_by, told_by, behind_first, standing_for, appls_by, dist_of, friends, is_inner, is_voice, news_of, token_weight, asking, inners, tale, weight}
+use Rattle.rh_otp_together.proofs.Forms.{How, unbegun, asks, requests, stands, starts, learns, reports, answered, over, Far, live, Fine, Token, ran, news, letter, h, d0, is_mine, asked_by, told_by, behind_first, standing_for, appls_by, dist_of, friends, is_inner, is_voice, news_of, token_weight, asking, inners, tale, weight, onto, is_news, all_said}
 use Rattle.rh_otp_together.proofs.Handling.{dist_with}
 use Rattle.rh_otp_together.proofs.Lives.{lives_so, awake_so}
 use Rattle.rh_otp_together.proofs.Moving.{comes_to, there_now, written}
 use Rattle.rh_otp_together.proofs.Needs.{each_of, once_of, up_of}
-use Rattle.rh_otp_together.proofs.Stages.{told_of, IsOf, Stage, drawn_apart}
+use Rattle.rh_otp_together.proofs.Queues.{heard_more, often, heard_of}
+use Rattle.rh_otp_together.proofs.Stages.{told_of, IsOf, Stage, drawn_apart, heard, row_app}
 use Rattle.rh_otp_together.proofs.Starting.{no_events}
 use Rattle.rh_otp_together.proofs.Stepping.{Step, stepped}
 use Rattle.rh_otp_together.proofs.Telling.{idle_so, Untold, untold, set_again, among_count, known_count, friends_alive, friend_count}
@@ -295,6 +296,10 @@ module _ {b : SystemView} (g : BootTogether b) {left : ℕ} {u : SystemView} (f 
   told_next : told_of b g.at m next ≡ a ∷ later
   told_next = (λ i. told_by b g.at m (so.then i) asked) ∙ lately.last
 
+  not_itself : count_of m (friends b g.at m) ≡ 0
+  not_itself = not_among m (λ (x : Node). not (x.0 == m.0) && (is_alive_at b x && has_dist_at b x)) (d0 b g.at m).known
+      (λ x is. ap (λ (d : Bool). not d && (is_alive_at b x && has_dist_at b x)) (eq-eqb x.0 m.0 is))
+
   one_further : Step f m (arrived (process_at (h b g.at m) role.DistAc) (message.Run a None) s)
   one_further = record {
     next = next;
@@ -363,10 +368,37 @@ module _ {b : SystemView} (g : BootTogether b) {left : ℕ} {u : SystemView} (f 
         ∙ ap (λ (d : Bool). cond d (count_of x (friends b g.at m)) 0)
         (ne_eqb a.0 c.0 (λ is. away (ap (λ (y : App). (g.at y).0) (sym (same_app a c is)) ∙ lately.mine))) in
         omega (arith, both, before, sent));
+    says = a ∷ [];
+    says_own = All-cons (λ (c : App). (g.at c).0 ≡ m.0) a [] lately.mine (All-nil (λ (c : App). (g.at c).0 ≡ m.0));
+    ordered = λ n p apart strange. ap (λ (l : List App). onto l (filter p (onto k.mail (map row_app k.rows))))
+        (heard_now m p ∙ ap (λ (l : List App). heard m p f.tokens ++ l) (none_said p) ∙ append-nil (heard m p f.tokens));
+    hears = λ x p there other.
+        heard_now x p
+        ∙ ap (λ (l : List App). heard x p f.tokens ++ l)
+        (heard_of x p a (friends b g.at m)
+        ∙ ap (λ (j : ℕ). cond (p a) (often a j) []) (friend_count g m alive x there other (is_one x there other)));
+    says_so = λ p own. ap (filter p) told_next ∙ put (p a) (filter p later) ∙ ap (λ (l : List App). onto (filter p (a ∷ [])) (filter p l))
+        (sym told_old);
     tells = sym (append-nil (tale b g.at m k.how k.done));
     mine = no_events m;
   }
     where
+      put : (c : Bool) (l : List App) → cond c (a ∷ l) l ≡ onto (cond c (a ∷ []) []) l
+      put true l = refl
+      put false l = refl
+
+      heard_now : (x : Node) (p : App → Bool) → heard x p (rest ++ more) ≡ heard x p f.tokens ++ heard x p more
+      heard_now x p =
+          heard_more x p rest more
+          ∙ ap (λ (l : List Token). all_said l ++ heard x p more) (sym (drawn_apart (is_news x p) (ran m a) f.tokens rest drawn refl))
+
+      none_said : (p : App → Bool) → heard m p more ≡ []
+      none_said p = heard_of m p a (friends b g.at m) ∙ ap (λ (j : ℕ). cond (p a) (often a j) []) not_itself ∙ nothing (p a)
+        where
+          nothing : (c : Bool) → ◌≡◌ {A = List App} (cond c [] []) []
+          nothing true = refl
+          nothing false = refl
+
       counted : (d : Bool) (j l : ℕ) → j ≡ 1 → cond d j 0 + l ≡ more_if d l
       counted true j l one = omega (arith, one)
       counted false j l one = omega arith
@@ -381,10 +413,8 @@ module _ {b : SystemView} (g : BootTogether b) {left : ℕ} {u : SystemView} (f 
           let before : total (news_of m c) f.tokens ≡ 0 + total (news_of m c) rest =
           drawn_total (news_of m c) (ran m a) f.tokens rest drawn in
           let sent : total (news_of m c) more ≡ cond (a.0 == c.0) (count_of m (friends b g.at m)) 0 = news_total m c a (friends b g.at m) in
-          let out : count_of m (friends b g.at m) ≡ 0 =
-          not_among m (λ (x : Node). not (x.0 == m.0) && (is_alive_at b x && has_dist_at b x)) (d0 b g.at m).known
-          (λ x is. ap (λ (d : Bool). not d && (is_alive_at b x && has_dist_at b x)) (eq-eqb x.0 m.0 is)) in
-          let none : cond (a.0 == c.0) (count_of m (friends b g.at m)) 0 ≡ 0 = nought (a.0 == c.0) (count_of m (friends b g.at m)) out in
+          let none : cond (a.0 == c.0) (count_of m (friends b g.at m)) 0 ≡ 0 =
+          nought (a.0 == c.0) (count_of m (friends b g.at m)) not_itself in
           (let same : total (news_of m c) (rest ++ more) ≡ total (news_of m c) f.tokens = omega (arith, both, before, sent, none) in same)
         where
           nought : (d : Bool) (j : ℕ) → j ≡ 0 → cond d j 0 ≡ 0

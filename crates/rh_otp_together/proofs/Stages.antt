@@ -19,8 +19,9 @@ use Rattle.rh_otp_orders.proofs.Taking.{Taken}
 use Rattle.rh_otp_crashes.proofs.Crossing.{same_node}
 use Rattle.rh_otp_joins.proofs.Lists.{more_if, count_of}
 use Rattle.rh_otp_gathers.proofs.Tokens.{total, Drawn, TakenOut, take_out}
+use Rattle.rh_otp_together.specs.Together.{boots_at}
 use Rattle.rh_otp_together.proofs.Apps.{tally, tally_rows}
-use Rattle.rh_otp_together.proofs.Forms.{How, unbegun, Far, live, Fine, Token, letter, node_of, is_inner, is_voice, news_of, token_weight, voices, inners, asked_by, told_by, pends_by, tale, weight, is_standing}
+use Rattle.rh_otp_together.proofs.Forms.{How, unbegun, Far, live, Fine, Token, letter, node_of, is_inner, is_voice, news_of, token_weight, voices, inners, asked_by, told_by, pends_by, tale, weight, is_standing, is_news, all_said, onto}
 
 -- ---- how far all are
 
@@ -50,6 +51,21 @@ asked_of b at m k = asked_by b at m k.how k.done
 abbrev pub told_of : SystemView → (App → Node) → Node → Far → List App
 told_of b at m k = told_by b at m (pends_by b at m k.how k.ran) (asked_of b at m k)
 
+-- which of these applications others have started, by the news that are on their way to the node, as these stand there
+abbrev pub heard : Node → (App → Bool) → List Token → List App
+heard m q tokens = all_said (filter (is_news m q) tokens)
+
+abbrev pub row_app : App × Node → App
+row_app row = row.0
+
+-- and by those that have come, too: the last one in front
+abbrev pub come : List Token → Far → Node → (App → Bool) → List App
+come tokens k m q = onto (heard m q tokens) (filter q (onto k.mail (map row_app k.rows)))
+
+-- these are applications that the node doesn't boot, left to that other one
+abbrev pub AreStrange : SystemView → (App → Node) → Node → Node → (App → Bool) → Type 0
+AreStrange b at m n q = (c : App) → q c ≡ true → ((at c).0 ≡ n.0) × (boots_at b m c ≡ false)
+
 abbrev pub IsOf : SystemView → Token → Type 0
 IsOf b t = 1 ≤ count_of (node_of t) b.alive
 
@@ -78,6 +94,8 @@ pub record Stage (b : SystemView) (at : App → Node) (left : ℕ) (u : SystemVi
   pub away : (m : Node) (a : App) → 1 ≤ count_of m b.alive → (at a).0 ≢ m.0
       → got tokens (far m) m a + tally a (asked_of b at m (far m)) ≡ tally a (told_of b at (at a) (far (at a)))
   pub home : (m : Node) (a : App) → 1 ≤ count_of m b.alive → (at a).0 ≡ m.0 → got tokens (far m) m a ≡ 0
+  pub order : (m n : Node) (q : App → Bool) → 1 ≤ count_of m b.alive → n.0 ≢ m.0 → AreStrange b at m n q
+      → come tokens (far m) m q ≡ filter q (told_of b at n (far n))
   pub events : (m : Node) → 1 ≤ count_of m b.alive
       → of_owner node_told (Some m) u.events ≡ of_owner node_told (Some m) b.events ++ tale b at m (far m).how (far m).done
   pub strangers : (m : Node) → count_of m b.alive ≡ 0 → of_owner node_told (Some m) u.events ≡ of_owner node_told (Some m) b.events

@@ -1,9 +1,9 @@
 -- One node is further, and all is as before elsewhere.
-use Rattle.std.proofs.Common.{◌≡◌, ◌≢◌, ◌≤◌, ◌⊎◌, ◌+◌, ◌++◌, ℕ, suc, Bool, false, cond, List, [], ◌∷◌, map, filter, Option, Some, None, refl, sym, ap, subst, ◌∙◌, inl, inr, arith}
+use Rattle.std.proofs.Common.{◌≡◌, ◌≢◌, ◌≤◌, ◌⊎◌, ◌+◌, ◌++◌, ℕ, suc, Bool, false, cond, List, [], ◌∷◌, map, filter, Option, Some, None, refl, sym, ap, subst, ◌∙◌, inl, inr, arith, true}
 use Rattle.std.specs.Prelude.{All}
-use Rattle.std.proofs.lemmas.Bool.{cases_eq, eq-eqb, ne_eqb}
+use Rattle.std.proofs.lemmas.Bool.{cases_eq, eq-eqb, ne_eqb, false_from_ne_true}
 use Rattle.std.proofs.lemmas.List.{append-nil}
-use Rattle.std.proofs.lemmas.List.Elements.{All-head, All-tail, filter-append}
+use Rattle.std.proofs.lemmas.List.Elements.{All-head, All-tail, filter-append, All-weaker}
 use Rattle.rh_model.specs.declared.node.App.{App}
 use Rattle.rh_model.specs.declared.node.Node.{Node}
 use Rattle.rh_otp_model.specs.declared.output.Event.{Event}
@@ -19,10 +19,11 @@ use Rattle.rh_otp_crashes.proofs.Crossing.{same_node}
 use Rattle.rh_otp_joins.proofs.Lists.{count_of}
 use Rattle.rh_otp_gathers.proofs.Tokens.{total}
 use Rattle.rh_otp_together.proofs.Apps.{tally, tally_rows}
-use Rattle.rh_otp_together.proofs.Forms.{Far, live, Fine, Token, letter, is_inner, is_voice, news_of, token_weight, voices, inners, tale, weight}
-use Rattle.rh_otp_together.proofs.Stages.{is_unbegun, IsHeld, got, asked_of, told_of, IsOf, Stage, changed, changed_here, changed_other, total_changed}
+use Rattle.rh_otp_together.proofs.Forms.{Far, live, Fine, Token, letter, is_inner, is_voice, news_of, token_weight, voices, inners, tale, weight, onto}
+use Rattle.rh_otp_together.proofs.Queues.{onto_more, none_of}
+use Rattle.rh_otp_together.proofs.Stages.{is_unbegun, IsHeld, got, asked_of, told_of, IsOf, Stage, changed, changed_here, changed_other, total_changed, heard, row_app, come, AreStrange}
 
--- A node is further by one move: it is so now, this is on its way, has been seen, and is held.
+-- A node is further by one move: it is so now, this is on its way, has been seen, and is held; and it tells the others of these starts.
 pub record Step {b : SystemView} {at : App → Node} {left : ℕ} {u : SystemView} (f : Stage b at (suc left) u) (m : Node) (v : SystemView) :
     Type 0 where
   pub next : Far
@@ -52,6 +53,12 @@ pub record Step {b : SystemView} {at : App → Node} {left : ℕ} {u : SystemVie
       → total (news_of k a) tokens + tally a (told_of b at m (f.far m)) ≡ total (news_of k a) f.tokens + tally a (told_of b at m next)
   pub apart : (k : Node) (a : App) → 1 ≤ count_of k b.alive → k.0 ≢ m.0 → (at a).0 ≢ m.0
       → total (news_of k a) tokens ≡ total (news_of k a) f.tokens
+  pub says : List App
+  pub says_own : All (λ (c : App). (at c).0 ≡ m.0) says
+  pub ordered : (n : Node) (q : App → Bool) → n.0 ≢ m.0 → AreStrange b at m n q → come tokens next m q ≡ come f.tokens (f.far m) m q
+  pub hears : (k : Node) (q : App → Bool) → 1 ≤ count_of k b.alive → k.0 ≢ m.0 → heard k q tokens ≡ heard k q f.tokens ++ filter q says
+  pub says_so : (q : App → Bool) → ((c : App) → q c ≡ true → (at c).0 ≡ m.0)
+      → filter q (told_of b at m next) ≡ onto (filter q says) (filter q (told_of b at m (f.far m)))
   pub tells : tale b at m next.how next.done ≡ tale b at m (f.far m).how (f.far m).done ++ seen
   pub mine : All (λ (e : Event). node_told e ≡ Some m) seen
 
@@ -115,6 +122,7 @@ stepped {b} {at} {left} {u} f m v once s = record {
   inner = λ k alive. inner_at k alive (cases_eq k.0 m.0);
   away = λ k a alive other. away_at k a alive other (cases_eq k.0 m.0) (cases_eq (at a).0 m.0);
   home = λ k a alive is. home_at k a alive is (cases_eq k.0 m.0);
+  order = λ k n q alive apart strange. order_at k n q alive apart strange (cases_eq k.0 m.0) (cases_eq n.0 m.0);
   events = λ k alive. events_at k alive (cases_eq k.0 m.0);
   strangers = λ k none.
       no_more (Some k) (ne_eqb k.0 m.0 (λ is. none_alive k none is)) ∙ f.strangers k none;
@@ -207,6 +215,35 @@ stepped {b} {at} {left} {u} f m v once s = record {
         ap (λ (x : Far). got s.tokens x k a) (far_other k apart)
         ∙ ap (λ (j : ℕ). j + tally a (f.far k).mail + tally_rows a (f.far k).rows) (s.apart k a alive apart (λ is. apart (sym home ∙ is)))
         ∙ f.home k a alive home
+
+    order_at : (k n : Node) (q : App → Bool) → 1 ≤ count_of k b.alive → n.0 ≢ k.0 → AreStrange b at k n q → (k.0 ≡ m.0) ⊎ (k.0 ≢ m.0)
+        → (n.0 ≡ m.0) ⊎ (n.0 ≢ m.0) → come s.tokens (far k) k q ≡ filter q (told_of b at n (far n))
+    order_at k n q alive apart strange (inl is) (inl also) = absurd (apart (also ∙ sym is))
+    order_at k n q alive apart strange (inl is) (inr other) =
+        subst (λ (x : Node). n.0 ≢ x.0 → AreStrange b at x n q → come s.tokens (far x) x q ≡ filter q (told_of b at n (far n)))
+        (sym (same_node k m is))
+        (λ away unknown.
+        ap (λ (x : Far). come s.tokens x m q) far_here ∙ s.ordered n q away unknown ∙ f.order m n q alive_m away unknown
+        ∙ ap (λ (x : Far). filter q (told_of b at n x)) (sym (far_other n other))) apart strange
+    order_at k n q alive apart strange (inr other) (inl is) =
+        ap (λ (x : Far). come s.tokens x k q) (far_other k other)
+        ∙ ap (λ (l : List App). onto l (filter q (onto (f.far k).mail (map row_app (f.far k).rows)))) (s.hears k q alive other)
+        ∙ onto_more (heard k q f.tokens) (filter q s.says) (filter q (onto (f.far k).mail (map row_app (f.far k).rows)))
+        ∙ ap (onto (filter q s.says)) (f.order k n q alive apart strange
+        ∙ ap (λ (x : Node). filter q (told_of b at x (f.far x))) (same_node n m is))
+        ∙ sym (s.says_so q (λ c so. (strange c so).0 ∙ is))
+        ∙ ap (λ (x : Far). filter q (told_of b at m x)) (sym far_here)
+        ∙ ap (λ (x : Node). filter q (told_of b at x (far x))) (sym (same_node n m is))
+    order_at k n q alive apart strange (inr other) (inr away) =
+        ap (λ (x : Far). come s.tokens x k q) (far_other k other)
+        ∙ ap (λ (l : List App). onto l (filter q (onto (f.far k).mail (map row_app (f.far k).rows))))
+        (s.hears k q alive other ∙ ap (λ (l : List App). heard k q f.tokens ++ l) nothing ∙ append-nil (heard k q f.tokens))
+        ∙ f.order k n q alive apart strange
+        ∙ ap (λ (x : Far). filter q (told_of b at n x)) (sym (far_other n away))
+      where
+        nothing : filter q s.says ≡ []
+        nothing = none_of q s.says (All-weaker (λ (c : App). (at c).0 ≡ m.0) (λ (c : App). q c ≡ false)
+            (λ c own. false_from_ne_true (q c) (λ so. away (sym (strange c so).0 ∙ own))) s.says s.says_own)
 
     events_so : v.events ≡ u.events ++ s.seen
     events_so = ap (λ (x : SystemView). x.events) s.is

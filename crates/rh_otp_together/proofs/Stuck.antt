@@ -1,9 +1,8 @@
 -- Where nothing moves no dist_ac waits: all that boot scripts start has started.
-use Rattle.std.proofs.Common.{◌≡◌, ◌≢◌, ◌≤◌, ◌<◌, ◌⊎◌, ◌+◌, ◌==◌, ℕ, zero, suc, Bool, true, false, cond, List, [], ◌∷◌, map, filter, length, slice_get, Some, refl, sym, ap, subst, ◌∙◌, inl, inr, arith}
+use Rattle.std.proofs.Common.{◌≡◌, ◌≢◌, ◌≤◌, ◌<◌, ◌⊎◌, ◌+◌, ◌++◌, ◌==◌, ℕ, zero, suc, Bool, true, false, cond, List, [], ◌∷◌, map, filter, refl, sym, ap, subst, ◌∙◌, inl, inr, append_assoc, arith}
 use Rattle.std.specs.Prelude.{All}
-use Rattle.std.proofs.lemmas.Bool.{cases_eq, eq-eqb, false≢true}
-use Rattle.std.proofs.lemmas.Option.{same_Some}
-use Rattle.std.proofs.lemmas.List.Elements.{All-head, All-tail}
+use Rattle.std.proofs.lemmas.Bool.{eq-eqb, false≢true}
+use Rattle.std.proofs.lemmas.List.Elements.{All-head}
 use Rattle.rh_model.specs.declared.node.App.{App}
 use Rattle.rh_model.specs.declared.node.Node.{Node}
 use Rattle.rh_model.specs.declared.settings.Restart.{Restart}
@@ -13,12 +12,12 @@ use Rattle.rh_otp_joins.proofs.Lists.{more_if, count_of}
 use Rattle.rh_otp_gathers.specs.Gathers.{times}
 use Rattle.rh_otp_gathers.proofs.Opening.{counts_so}
 use Rattle.rh_otp_gathers.proofs.Tokens.{total, TakenOut, take_out}
-use Rattle.rh_otp_together.specs.Together.{BootTogether}
-use Rattle.rh_otp_together.proofs.Apps.{tally, tally_rows, tally_itself}
+use Rattle.rh_otp_together.specs.Together.{boots_at, BootTogether}
+use Rattle.rh_otp_together.proofs.Apps.{same_app, tally, tally_rows, tally_itself}
 use Rattle.rh_otp_together.proofs.Forms.{How, unbegun, asks, requests, stands, starts, learns, reports, answered, over, Far, Fine, Token, start, request, yes, there, report, answer, ran, news, node_of, onto, current, is_dist, is_mine, dists, asked_by, is_inner, is_voice, news_of, token_weight, voices, inners, costs, telling_weight, weight_by, ran_weight, weight}
-use Rattle.rh_otp_together.proofs.Going.{at_onto}
 use Rattle.rh_otp_together.proofs.Lives.{unasked}
 use Rattle.rh_otp_together.proofs.Needs.{each_of}
+use Rattle.rh_otp_together.proofs.Passing.{so_of_one, tally_passing, place_in, stands_before}
 use Rattle.rh_otp_together.proofs.Stages.{is_unbegun, got, asked_of, told_of, IsOf, Stage, total_same}
 
 -- ---- lists
@@ -45,26 +44,11 @@ filter_onto q (y ∷ done) l = filter_onto q done (y ∷ l) ∙ by (q y.0)
     by true = refl
     by false = refl
 
-all_behind : (P : App → Type 0) (d l : List App) → All P (onto d l) → All P l
-all_behind P [] l all = all
-all_behind P (x ∷ d) l all = All-tail P x l (all_behind P d (x ∷ l) all)
-
--- what stands in front of the others is one of these
-in_front : (d l : List App) (j : ℕ) (y : App) → j < length d → slice_get (onto d l) j ≡ Some y → 1 ≤ tally y d
-in_front [] l j y less is = absurd (omega (arith, less))
-in_front (x ∷ d) l j y less is = by (cases_eq j (length d)) (λ before. in_front d (x ∷ l) j y before is)
-  where
-    more : (c : Bool) (i : ℕ) → 1 ≤ i → 1 ≤ more_if c i
-    more true i some = omega (arith, some)
-    more false i some = some
-
-    by : (j ≡ length d) ⊎ (j ≢ length d) → (j < length d → 1 ≤ tally y d) → 1 ≤ more_if (x.0 == y.0) (tally y d)
-    by (inl last) rest =
-        let at : slice_get (onto d (x ∷ l)) (length d + 0) ≡ Some x = at_onto d (x ∷ l) 0 in
-        let place : length d + 0 ≡ j = omega (arith, last) in
-        let same : x ≡ y = same_Some x y (sym at ∙ ap (slice_get (onto d (x ∷ l))) place ∙ is) in
-        subst (λ (c : Bool). 1 ≤ more_if c (tally y d)) (sym (eq-eqb x.0 y.0 (ap (λ (z : App). z.0) same))) (omega arith)
-    by (inr other) rest = more (x.0 == y.0) (tally y d) (rest (omega (arith, less, other)))
+-- what stands in front of a list is turned round
+onto_so : {A : Type 0} (d l : List A) → onto d l ≡ onto d [] ++ l
+onto_so [] l = refl
+onto_so {A} (x ∷ d) l =
+    onto_so d (x ∷ l) ∙ sym (append_assoc (onto d []) (x ∷ []) l) ∙ ap (λ (y : List A). y ++ l) (sym (onto_so d (x ∷ [])))
 
 -- ---- weights
 
@@ -205,16 +189,16 @@ module _ {b : SystemView} (g : BootTogether b) {left : ℕ} {u : SystemView} (f 
   abbrev ahead : Node → List App
   ahead m = filter (controls (own_at b m)) (map (λ (row : App × Restart). row.0) (current (f.far m).how (f.far m).rest))
 
-  apps_so : (m : Node) → 1 ≤ count_of m b.alive → g.apps ≡ onto (decided m) (ahead m)
-  apps_so m alive =
+  own_so : (m : Node) → 1 ≤ count_of m b.alive → filter (boots_at b m) g.apps ≡ onto (decided m) (ahead m)
+  own_so m alive =
       sym (each_of g m alive).distributed
       ∙ ap (λ (l : List (App × Restart)). filter (controls (own_at b m)) (map (λ (row : App × Restart). row.0) l)) (f.fine m alive).boots
       ∙ filter_onto (controls (own_at b m)) (f.far m).done (current (f.far m).how (f.far m).rest)
 
-  -- where a dist_ac waits, the application is the next of all
+  -- where a dist_ac waits, the application is the next of those that its node boots
   record Next (m : Node) (a : App) : Type 0 where
     later : List App
-    is : g.apps ≡ onto (decided m) (a ∷ later)
+    is : filter (boots_at b m) g.apps ≡ onto (decided m) (a ∷ later)
     other : (g.at a).0 ≢ m.0
     mail : tally a (f.far m).mail ≡ 0
     rows : tally_rows a (f.far m).rows ≡ 0
@@ -223,7 +207,7 @@ module _ {b : SystemView} (g : BootTogether b) {left : ℕ} {u : SystemView} (f 
   next_of : (m : Node) (a : App) (r : Restart) → 1 ≤ count_of m b.alive → (f.far m).how ≡ stands a r → Next m a
   next_of m a r alive is = record {
     later = filter (controls (own_at b m)) (map (λ (row : App × Restart). row.0) (f.far m).rest);
-    is = apps_so m alive
+    is = own_so m alive
         ∙ ap (λ (x : How). onto (decided m)
         (filter (controls (own_at b m)) (map (λ (row : App × Restart). row.0) (current x (f.far m).rest)))) is
         ∙ ap (λ (c : Bool). onto (decided m)
@@ -250,20 +234,38 @@ module _ {b : SystemView} (g : BootTogether b) {left : ℕ} {u : SystemView} (f 
       let so : tally a (told_of b g.at (g.at a) (f.far (g.at a))) ≡ 0 = omega (arith, all, no_news, mail, rows, asked) in
       so
 
-  runner : (m : Node) (a : App) → Next m a → 1 ≤ count_of (g.at a) b.alive
-  runner m a n =
-      subst (λ (j : ℕ). 1 ≤ j) (sym (counts_so (g.at a) b.alive))
-      (All-head (λ (c : App). 1 ≤ times (g.at c) b.alive) a n.later
-      (all_behind (λ (c : App). 1 ≤ times (g.at c) b.alive) (decided m) (a ∷ n.later)
-      (subst (All (λ (c : App). 1 ≤ times (g.at c) b.alive)) n.is g.runners)))
+  -- it is one of all, and its node boots it
+  shared : (m : Node) (a : App) → Next m a → (boots_at b m a ≡ true) × (1 ≤ tally a g.apps)
+  shared m a n = by (boots_at b m a) refl
+    where
+      some : 1 ≤ tally a (filter (boots_at b m) g.apps)
+      some =
+          let mine : tally a (filter (boots_at b m) g.apps) ≡ tally a (decided m) + tally a (a ∷ n.later) = ap (tally a) n.is
+          ∙ tally_onto a (decided m) (a ∷ n.later) in
+          let one : tally a (a ∷ n.later) ≡ suc (tally a n.later) = tally_itself a n.later in
+          omega (arith, mine, one)
+
+      by : (c : Bool) → boots_at b m a ≡ c → (boots_at b m a ≡ true) × (1 ≤ tally a g.apps)
+      by true is =
+          let all : tally a (filter (boots_at b m) g.apps) ≡ tally a g.apps =
+          tally_passing (boots_at b m) a g.apps ∙ ap (λ (c : Bool). cond c (tally a g.apps) 0) is in
+          (is, (let there : 1 ≤ tally a g.apps = omega (arith, some, all) in there))
+      by false is =
+          let none : tally a (filter (boots_at b m) g.apps) ≡ 0 =
+          tally_passing (boots_at b m) a g.apps ∙ ap (λ (c : Bool). cond c (tally a g.apps) 0) is in
+          absurd (omega (arith, some, none))
+
+  runner : (m : Node) (a : App) → Next m a → (1 ≤ times (g.at a) b.alive) × (boots_at b (g.at a) a ≡ true)
+  runner m a n = so_of_one (λ (c : App). (1 ≤ times (g.at c) b.alive) × (boots_at b (g.at c) c ≡ true)) a g.apps g.runners
+      (shared m a n).1
 
   -- the one that waits for the first of all would have none to wait for
-  stuck : (most : ℕ) (m : Node) (a : App) (r : Restart) → 1 ≤ count_of m b.alive → (f.far m).how ≡ stands a r → length (decided m) < most
+  stuck : (most : ℕ) (m : Node) (a : App) (r : Restart) → 1 ≤ count_of m b.alive → (f.far m).how ≡ stands a r → place_in g.apps a < most
       → ⊥
   stuck zero m a r alive is less = omega (arith, less)
   stuck (suc most) m a r alive is less =
       by (stands_or_over x there_is)
-      (λ c q stands_so shorter. stuck most x c q there_is stands_so shorter)
+      (λ c q stands_so sooner. stuck most x c q there_is stands_so sooner)
     where
       n : Next m a
       n = next_of m a r alive is
@@ -272,7 +274,7 @@ module _ {b : SystemView} (g : BootTogether b) {left : ℕ} {u : SystemView} (f 
       x = g.at a
 
       there_is : 1 ≤ count_of x b.alive
-      there_is = runner m a n
+      there_is = subst (λ (j : ℕ). 1 ≤ j) (sym (counts_so x b.alive)) (runner m a n).0
 
       undecided : (how : How) → (f.far x).how ≡ how → told_of b g.at x (record (f.far x) { how = how; ran = [] }) ≡ decided x
           → tally a (decided x) ≡ 0
@@ -282,80 +284,44 @@ module _ {b : SystemView} (g : BootTogether b) {left : ℕ} {u : SystemView} (f 
           ∙ not_there m a alive n
 
       by : ((f.far x).how ≡ over) ⊎ ((c : App) × (q : Restart) × ((f.far x).how ≡ stands c q))
-          → ((c : App) (q : Restart) → (f.far x).how ≡ stands c q → length (decided x) < most → ⊥) → ⊥
+          → ((c : App) (q : Restart) → (f.far x).how ≡ stands c q → place_in g.apps c < most → ⊥) → ⊥
       by (inl ended) rest =
           let fine : Fine b g.at x (record (f.far x) { how = over }) =
           subst (Fine b g.at x) (λ i. record (f.far x) { how = ended i }) (f.fine x there_is) in
           let at_end : (f.far x).rest ≡ [] = fine.so in
-          let all : g.apps ≡ onto (decided x) [] =
-          apps_so x there_is
+          let all : filter (boots_at b x) g.apps ≡ onto (decided x) [] =
+          own_so x there_is
           ∙ (λ i. onto (decided x)
           (filter (controls (own_at b x)) (map (λ (row : App × Restart). row.0) (current (ended i) (at_end i))))) in
-          let mine : tally a g.apps ≡ tally a (decided m) + tally a (a ∷ n.later) = ap (tally a) n.is
-          ∙ tally_onto a (decided m) (a ∷ n.later) in
-          let theirs : tally a g.apps ≡ tally a (decided x) + 0 = ap (tally a) all ∙ tally_onto a (decided x) [] in
-          let one : tally a (a ∷ n.later) ≡ suc (tally a n.later) = tally_itself a n.later in
+          let theirs : tally a (filter (boots_at b x) g.apps) ≡ tally a (decided x) + 0 = ap (tally a) all
+          ∙ tally_onto a (decided x) [] in
+          let passes : tally a (filter (boots_at b x) g.apps) ≡ tally a g.apps =
+          tally_passing (boots_at b x) a g.apps ∙ ap (λ (c : Bool). cond c (tally a g.apps) 0) (runner m a n).1 in
+          let some : 1 ≤ tally a g.apps = (shared m a n).1 in
           let nothing : tally a (decided x) ≡ 0 = undecided over ended refl in
-          omega (arith, mine, theirs, one, nothing)
-      by (inr (c, q, stands_so)) rest = compare (cases_eq (length (decided x)) (length (decided m)))
+          omega (arith, theirs, passes, some, nothing)
+      by (inr (c, q, stands_so)) rest = rest c q stands_so (let sooner : place_in g.apps c < place_in g.apps a = before in
+          omega (arith, sooner, less))
         where
           n2 : Next x c
           n2 = next_of x c q there_is stands_so
 
-          nothing : tally a (decided x) ≡ 0
-          nothing = undecided (stands c q) stands_so refl
+          nothing : tally a (onto (decided x) []) ≡ 0
+          nothing =
+              let none : tally a (decided x) ≡ 0 = undecided (stands c q) stands_so refl in
+              let turned : tally a (onto (decided x) []) ≡ tally a (decided x) + 0 = tally_onto a (decided x) [] in
+              (let same : tally a (onto (decided x) []) ≡ 0 = omega (arith, none, turned) in same)
 
-          mine_at : slice_get g.apps (length (decided m)) ≡ Some a
-          mine_at =
-              ap (λ (l : List App). slice_get l (length (decided m))) n.is
-              ∙ ap (slice_get (onto (decided m) (a ∷ n.later)))
-              (let same : length (decided m) ≡ length (decided m) + 0 = omega arith in same)
-              ∙ at_onto (decided m) (a ∷ n.later) 0
-
-          theirs_at : slice_get g.apps (length (decided x)) ≡ Some c
-          theirs_at =
-              ap (λ (l : List App). slice_get l (length (decided x))) n2.is
-              ∙ ap (slice_get (onto (decided x) (c ∷ n2.later)))
-              (let same : length (decided x) ≡ length (decided x) + 0 = omega arith in same)
-              ∙ at_onto (decided x) (c ∷ n2.later) 0
-
-          compare : (length (decided x) ≡ length (decided m)) ⊎ (length (decided x) ≢ length (decided m)) → ⊥
-          compare (inl same) =
-              let one : a ≡ c = same_Some a c (sym mine_at ∙ ap (slice_get g.apps) (sym same) ∙ theirs_at) in
-              n2.other (ap (λ (y : App). (g.at y).0) (sym one))
-          compare (inr apart) = rest c q stands_so (shorter (length (decided m)) (length (decided x)) refl refl)
-            where
-              longer : length (decided m) < length (decided x) → ⊥
-              longer more =
-                  let some : 1 ≤ tally a (decided x) =
-                  in_front (decided x) (c ∷ n2.later) (length (decided m)) a more
-                  (ap (λ (l : List App). slice_get l (length (decided m))) (sym n2.is) ∙ mine_at) in
-                  omega (arith, some, nothing)
-
-              shorter : (i j : ℕ) → length (decided m) ≡ i → length (decided x) ≡ j → length (decided x) < most
-              shorter i j is_i is_j = by_order (cases_less (length (decided m)) (length (decided x)))
-                where
-                  cases_less : (i j : ℕ) → (i < j) ⊎ (j ≤ i)
-                  cases_less zero zero = inr (omega arith)
-                  cases_less zero (suc j) = inl (omega arith)
-                  cases_less (suc i) zero = inr (omega arith)
-                  cases_less (suc i) (suc j) = up (cases_less i j)
-                    where
-                      up : (i < j) ⊎ (j ≤ i) → (suc i < suc j) ⊎ (suc j ≤ suc i)
-                      up (inl l) = inl (omega (arith, l))
-                      up (inr l) = inr (omega (arith, l))
-
-                  by_order : (length (decided m) < length (decided x)) ⊎ (length (decided x) ≤ length (decided m))
-                      → length (decided x) < most
-                  by_order (inl more) = absurd (longer more)
-                  by_order (inr few) = omega (arith, few, apart, less)
+          before : place_in g.apps c < place_in g.apps a
+          before = stands_before (boots_at b x) c a g.apps (onto (decided x) []) n2.later (n2.is ∙ onto_so (decided x) (c ∷ n2.later))
+              (shared x c n2).0 (runner m a n).1 nothing (λ same. n2.other (ap (λ (y : App). (g.at y).0) (same_app c a same)))
 
   all_over : (m : Node) → 1 ≤ count_of m b.alive → (f.far m).how ≡ over
   all_over m alive = by (stands_or_over m alive)
     where
       by : ((f.far m).how ≡ over) ⊎ ((a : App) × (r : Restart) × ((f.far m).how ≡ stands a r)) → (f.far m).how ≡ over
       by (inl is) = is
-      by (inr (a, r, is)) = absurd (stuck (suc (length (decided m))) m a r alive is (omega arith))
+      by (inr (a, r, is)) = absurd (stuck (suc (place_in g.apps a)) m a r alive is (omega arith))
 
   -- so nothing is left to do
   pub none_left : left ≡ 0

@@ -1,5 +1,5 @@
 -- Whatever moves, one node is further.
-use Rattle.std.proofs.Common.{◌≡◌, ◌≢◌, ◌≤◌, ◌⊎◌, ◌==◌, ℕ, suc, Bool, true, false, List, [], ◌∷◌, map, filter, refl, sym, ap, subst, ◌∙◌, inl, inr}
+use Rattle.std.proofs.Common.{◌≡◌, ◌≢◌, ◌≤◌, ◌⊎◌, ◌==◌, ℕ, suc, Bool, true, false, List, [], ◌∷◌, map, filter, refl, sym, ap, subst, ◌∙◌, inl, inr, ◌&&◌}
 use Rattle.std.proofs.lemmas.Bool.{cases_eq, eq-eqb, eqb-true, false≢true}
 use Rattle.rh_model.specs.declared.node.App.{App}
 use Rattle.rh_model.specs.declared.node.Node.{Node}
@@ -8,8 +8,9 @@ use Rattle.rh_otp_model.specs.declared.output.Envelope.{Envelope}
 use Rattle.rh_otp_model.specs.declared.process.Role.TheVariants as role
 use Rattle.rh_otp_model.specs.Processes.{process_at}
 use Rattle.rh_otp_net.specs.Queue.{is_of_pair}
+use Rattle.rh_otp_node.specs.Live.{here_of}
 use Rattle.rh_otp_system.specs.Delivering.{arrived}
-use Rattle.rh_otp_system.specs.State.{SystemView}
+use Rattle.rh_otp_system.specs.State.{SystemView, node_at}
 use Rattle.rh_otp_laws.proofs.Order.{pair_itself}
 use Rattle.rh_otp_orders.proofs.Taking.{Taken}
 use Rattle.rh_otp_crashes.proofs.Crossing.{same_node}
@@ -20,10 +21,10 @@ use Rattle.rh_otp_gathers.proofs.Tokens.{Drawn}
 use Rattle.rh_otp_together.specs.Together.{BootTogether}
 use Rattle.rh_otp_together.proofs.Apps.{same_app}
 use Rattle.rh_otp_together.proofs.Finishing.{learns_so, reports_so}
-use Rattle.rh_otp_together.proofs.Forms.{How, unbegun, asks, requests, stands, starts, learns, reports, answered, over, Far, Token, start, request, yes, there, report, answer, ran, news, letter, h, is_inner, is_voice, is_standing, inners}
+use Rattle.rh_otp_together.proofs.Forms.{How, unbegun, asks, requests, stands, starts, learns, reports, answered, over, Far, Token, start, request, yes, there, report, answer, ran, news, letter, h, is_inner, is_voice, is_standing, inners, is_news}
 use Rattle.rh_otp_together.proofs.Going.{goes_further}
 use Rattle.rh_otp_together.proofs.Handling.{note}
-use Rattle.rh_otp_together.proofs.Hearing.{noted_now, mailed_now}
+use Rattle.rh_otp_together.proofs.Hearing.{IsNext, noted_now, mailed_now}
 use Rattle.rh_otp_together.proofs.Plain.{IsMine}
 use Rattle.rh_otp_together.proofs.Requesting.{answers_it}
 use Rattle.rh_otp_together.proofs.Resuming.{goes_on_there}
@@ -72,6 +73,46 @@ inner_pairs b at m x y one other = by x y one other
     by (ran n a) (answer k) first second = absurd (false≢true second)
     by (ran n a) (news k c) first second = absurd (false≢true second)
 
+-- so do the news to a node of what is left to one node
+news_pairs : (b : SystemView) (at : App → Node) (m n : Node) (q : App → Bool) → ((c : App) → q c ≡ true → (at c).0 ≡ n.0)
+    → (x y : Token) → is_news m q x ≡ true → is_news m q y ≡ true → is_of_pair (letter b at x) (letter b at y) ≡ true
+news_pairs b at m n q own x y one other = by x y one other
+  where
+    both : (c d : Bool) → (c && d) ≡ true → (c ≡ true) × (d ≡ true)
+    both true true is = (refl, refl)
+    both true false is = absurd (false≢true is)
+    both false d is = absurd (false≢true is)
+
+    sent : Node → Node → App → Envelope
+    sent x y c = record {
+      from = process_at (here_of x (node_at b x)) role.DistAc;
+      to = process_at (here_of y (node_at b y)) role.DistAc;
+      message = note at c;
+    }
+
+    by : (x y : Token) → is_news m q x ≡ true → is_news m q y ≡ true → is_of_pair (letter b at x) (letter b at y) ≡ true
+    by (news x c) (news y d) first second =
+        let here : (x.0 ≡ m.0) × (q c ≡ true) = (eqb-true x.0 m.0 (both (x.0 == m.0) (q c) first).0, (both (x.0 == m.0) (q c) first).1) in
+        let there_too : (y.0 ≡ m.0) × (q d ≡ true) =
+        (eqb-true y.0 m.0 (both (y.0 == m.0) (q d) second).0, (both (y.0 == m.0) (q d) second).1) in
+        (λ i. is_of_pair (sent (at c) x c) (sent (same_node (at d) (at c) (own d there_too.1 ∙ sym (own c here.1)) i)
+        (same_node y x (there_too.0 ∙ sym here.0) i) d))
+        ∙ pair_itself (sent (at c) x c)
+    by (news x c) (start y d r) first second = absurd (false≢true second)
+    by (news x c) (request y d) first second = absurd (false≢true second)
+    by (news x c) (yes y d) first second = absurd (false≢true second)
+    by (news x c) (there y d) first second = absurd (false≢true second)
+    by (news x c) (report y d) first second = absurd (false≢true second)
+    by (news x c) (answer y) first second = absurd (false≢true second)
+    by (news x c) (ran y d) first second = absurd (false≢true second)
+    by (start x c r) z first second = absurd (false≢true first)
+    by (request x c) z first second = absurd (false≢true first)
+    by (yes x c) z first second = absurd (false≢true first)
+    by (there x c) z first second = absurd (false≢true first)
+    by (report x c) z first second = absurd (false≢true first)
+    by (answer x) z first second = absurd (false≢true first)
+    by (ran x c) z first second = absurd (false≢true first)
+
 module _ {b : SystemView} (g : BootTogether b) {left : ℕ} {u : SystemView} (f : Stage b g.at (suc left) u) (messages : List Envelope) where
   abbrev s : SystemView
   s = without u messages
@@ -90,23 +131,23 @@ module _ {b : SystemView} (g : BootTogether b) {left : ℕ} {u : SystemView} (f 
 
   -- where it is told of a start elsewhere
   heard : (m : Node) (a : App) (rest : List Token) → 1 ≤ count_of m b.alive → messages ≡ map (letter b g.at) rest
-      → Drawn (news m a) f.tokens rest
+      → Drawn (news m a) f.tokens rest → IsNext g.at m a f.tokens rest
       → (how : How) → (f.far m).how ≡ how
       → Stage b g.at left (arrived (process_at (h b g.at m) role.DistAc) (note g.at a) s)
-  heard m a rest alive left_so drawn unbegun is = noted_now g f m a alive messages rest left_so drawn (ap is_standing is)
-  heard m a rest alive left_so drawn (asks c r) is = noted_now g f m a alive messages rest left_so drawn (ap is_standing is)
-  heard m a rest alive left_so drawn (requests c r) is = noted_now g f m a alive messages rest left_so drawn (ap is_standing is)
-  heard m a rest alive left_so drawn (stands c r) is = by (cases_eq a.0 c.0)
+  heard m a rest alive left_so drawn first unbegun is = noted_now g f m a alive messages rest left_so drawn first (ap is_standing is)
+  heard m a rest alive left_so drawn first (asks c r) is = noted_now g f m a alive messages rest left_so drawn first (ap is_standing is)
+  heard m a rest alive left_so drawn first (requests c r) is = noted_now g f m a alive messages rest left_so drawn first (ap is_standing is)
+  heard m a rest alive left_so drawn first (stands c r) is = by (cases_eq a.0 c.0)
     where
       by : (a.0 ≡ c.0) ⊎ (a.0 ≢ c.0) → Stage b g.at left (arrived (process_at (h b g.at m) role.DistAc) (note g.at a) s)
       by (inl same) = goes_on_there g f m a alive messages rest left_so drawn r
           (is ∙ ap (λ (x : App). stands x r) (sym (same_app a c same)))
-      by (inr other) = mailed_now g f m a alive messages rest left_so drawn c r is other
-  heard m a rest alive left_so drawn (starts c r) is = noted_now g f m a alive messages rest left_so drawn (ap is_standing is)
-  heard m a rest alive left_so drawn (learns c r) is = noted_now g f m a alive messages rest left_so drawn (ap is_standing is)
-  heard m a rest alive left_so drawn (reports c r) is = noted_now g f m a alive messages rest left_so drawn (ap is_standing is)
-  heard m a rest alive left_so drawn answered is = noted_now g f m a alive messages rest left_so drawn (ap is_standing is)
-  heard m a rest alive left_so drawn over is = noted_now g f m a alive messages rest left_so drawn (ap is_standing is)
+      by (inr other) = mailed_now g f m a alive messages rest left_so drawn c r first is other
+  heard m a rest alive left_so drawn first (starts c r) is = noted_now g f m a alive messages rest left_so drawn first (ap is_standing is)
+  heard m a rest alive left_so drawn first (learns c r) is = noted_now g f m a alive messages rest left_so drawn first (ap is_standing is)
+  heard m a rest alive left_so drawn first (reports c r) is = noted_now g f m a alive messages rest left_so drawn first (ap is_standing is)
+  heard m a rest alive left_so drawn first answered is = noted_now g f m a alive messages rest left_so drawn first (ap is_standing is)
+  heard m a rest alive left_so drawn first over is = noted_now g f m a alive messages rest left_so drawn first (ap is_standing is)
 
   by_token : (t : Token) (rest : List Token) → messages ≡ map (letter b g.at) rest → Drawn t f.tokens rest
       → ((p : Token → Bool) → ((x y : Token) → p x ≡ true → p y ≡ true → is_of_pair (letter b g.at x) (letter b g.at y) ≡ true) → p t ≡ true
@@ -170,7 +211,8 @@ module _ {b : SystemView} (g : BootTogether b) {left : ℕ} {u : SystemView} (f 
       tells_all g f m a alive messages rest left_so drawn (first (is_inner m) (inner_pairs b g.at m) (eq-eqb m.0 m.0 refl))
   by_token (news m a) rest left_so drawn first =
       let alive : 1 ≤ count_of m b.alive = (drawn_all (IsOf b) (news m a) f.tokens rest f.known drawn).0 in
-      heard m a rest alive left_so drawn (f.far m).how refl
+      heard m a rest alive left_so drawn
+      (λ n q own is. first (is_news m q) (news_pairs b g.at m n q own) (λ i. eq-eqb m.0 m.0 refl i && is i)) (f.far m).how refl
 
   -- a message is taken
   pub taken_on : (e : Envelope) → Taken e u.messages messages → Stage b g.at left (arrived e.to e.message s)

@@ -16,10 +16,10 @@ use Rattle.rh_otp_joins.proofs.Lists.{count_of}
 use Rattle.rh_otp_gathers.proofs.Tokens.{Drawn}
 use Rattle.rh_otp_together.specs.Together.{BootTogether}
 use Rattle.rh_otp_together.proofs.Apps.{tally, tally_rows}
-use Rattle.rh_otp_together.proofs.Forms.{How, unbegun, asks, requests, stands, starts, learns, reports, answered, over, Far, live, Fine, Token, start, yes, there, report, answer, ran, letter, is_inner, is_voice, voices, asking, inners, is_standing, tale, weight}
+use Rattle.rh_otp_together.proofs.Forms.{How, unbegun, asks, requests, stands, starts, learns, reports, answered, over, Far, live, Fine, Token, start, yes, there, report, answer, ran, letter, is_inner, is_voice, voices, asking, inners, is_standing, tale, weight, onto}
 use Rattle.rh_otp_together.proofs.Needs.{once_of}
 use Rattle.rh_otp_together.proofs.Plain.{IsMine, plainly, voices_pass, voices_mine, voices_no_inner}
-use Rattle.rh_otp_together.proofs.Stages.{is_unbegun, IsHeld, asked_of, told_of, Stage, drawn_only, changed, changed_here, changed_other}
+use Rattle.rh_otp_together.proofs.Stages.{is_unbegun, IsHeld, asked_of, told_of, Stage, drawn_only, changed, changed_here, changed_other, row_app}
 use Rattle.rh_otp_together.proofs.Stepping.{stepped}
 
 -- ---- which it is
@@ -195,6 +195,8 @@ goes_on {b} g {left} {u} f m old t rest v alive was own_one drawn none s = stepp
   sums = λ a away. (λ i. tally a (s.same_mail i) + tally_rows a (s.same_rows i) + tally a (s.asked i));
   homes = λ a home. (λ i. tally a (s.same_mail i) + tally_rows a (s.same_rows i));
   told = λ a home. ap (tally a) s.told;
+  ordered = λ q strange. (λ i. filter q (onto (s.same_mail i) (map row_app (s.same_rows i))));
+  said = λ q own. ap (filter q) s.told;
   tells = s.tells;
   own = s.own;
 }))

@@ -1,5 +1,5 @@
 -- What boot scripts come to that begin at once: each has started all of its list, and what an observer is told of it (ours).
-use Rattle.std.specs.Prelude.{◌≡◌, ◌≤◌, ◌+◌, ◌==◌, ◌++◌, nat_lt, ℕ, List, [], ◌∷◌, map, filter, All, length, Bool, true, Some, None, if◌then◌else◌}
+use Rattle.std.specs.Prelude.{◌≡◌, ◌≤◌, ◌+◌, ◌==◌, ◌++◌, nat_lt, ℕ, List, [], ◌∷◌, map, filter, reverse, All, length, Bool, true, Some, None, if◌then◌else◌}
 use Rattle.rh_model.specs.ClusterView.{boot_of, node_count}
 use Rattle.rh_model.specs.declared.node.App.{App}
 use Rattle.rh_model.specs.declared.node.Node.{Node}
@@ -19,7 +19,7 @@ use Rattle.rh_otp_orders.specs.Orders.{of_owner, node_told}
 use Rattle.rh_otp_crashes.specs.Crashes.{IsUnoccupied}
 use Rattle.rh_otp_joins.specs.Leading.{LeadsTo}
 use Rattle.rh_otp_gathers.specs.Gathers.{times}
-use Rattle.rh_otp_together.specs.Together.{BootTogether}
+use Rattle.rh_otp_together.specs.Together.{strangers_of, BootTogether}
 
 -- does an application of the node's boot list run at the node itself? One that the node's own `distributed` has runs at the node to which
 -- its dist_ac leaves it (kernel(6)).
@@ -38,16 +38,23 @@ told_there s at m =
     (filter (λ (row : App × Restart). runs_here s at m row.0) (boot_of s.cluster m))
     ++ (if nat_lt m.0 (node_count s.cluster) then event.Booted m ∷ [] else [])
 
+-- Where those of these applications run that the node doesn't boot. The same node starts all of them, in their order, and its news come
+-- in that order, too; dist_ac puts what it is told last in front (`remote_started`; ours).
+abbrev pub rows_of : SystemView → Node → (App → Node) → List App → List (App × Node)
+rows_of s m at apps = map (λ (a : App). (a, at a)) (reverse (strangers_of s m apps))
+
 -- The node's script has come to the end of its list, and the controller has each entry as started, and knows where it runs. The dist_ac
--- takes whatever comes, nothing is left in its mailbox, and it knows of no start that its node hasn't asked for; it is unoccupied, if
--- nobody waited at it for a permission where the scripts began. But for these, and for the kinds of starts that an observer saw there, the
--- node is as it was: its phase and its life, too. And of the node an observer was told so, behind what was told before.
-pub record HasBooted (at : App → Node) (m : Node) (s t : SystemView) : Type 0 where
+-- takes whatever comes, nothing is left in its mailbox, and of starts that its node hasn't asked for it knows those of the applications
+-- that its node doesn't boot, at the node at which these run; it is unoccupied, if nobody waited at it for a permission where the scripts
+-- began. But for these, and for the kinds of starts that an observer saw there, the node is as it was: its phase and its life, too. And
+-- of the node an observer was told so, behind what was told before.
+pub record HasBooted (apps : List App) (at : App → Node) (m : Node) (s t : SystemView) : Type 0 where
   pub place : (node_at t m).place ≡ length (boot_of s.cluster m) + 1
   pub runs : All (λ (row : App × Restart). keyfind row.0 (node_at t m).controller.running ≡ Some (place_there s at m row.0))
       (boot_of s.cluster m)
   pub started : All (λ (row : App × Restart). has_row row.0 (node_at t m).controller.started ≡ true) (boot_of s.cluster m)
-  pub idle : (d : DistView) → (node_at t m).dist ≡ Some d → (d.stand ≡ stand.Idle) × (d.mail ≡ []) × (d.remote_started ≡ [])
+  pub idle : (d : DistView) → (node_at t m).dist ≡ Some d → (d.stand ≡ stand.Idle) × (d.mail ≡ [])
+      × (d.remote_started ≡ rows_of s m at apps)
   pub unoccupied : (d e : DistView) → (node_at s m).dist ≡ Some d → (node_at t m).dist ≡ Some e → d.p_reqs ≡ [] → IsUnoccupied e
   pub rest : node_at t m ≡ record (node_at s m) {
     place = (node_at t m).place;
@@ -59,8 +66,8 @@ pub record HasBooted (at : App → Node) (m : Node) (s t : SystemView) : Type 0 
 
 -- So is each that is alive; nothing is left to move, and nobody has a lock. No other node has changed, nothing was told of one, and but for
 -- nodes and for what was told all else is as it was.
-pub record HaveBooted (at : App → Node) (s t : SystemView) : Type 0 where
-  pub each : (m : Node) → 1 ≤ times m s.alive → HasBooted at m s t
+pub record HaveBooted (apps : List App) (at : App → Node) (s t : SystemView) : Type 0 where
+  pub each : (m : Node) → 1 ≤ times m s.alive → HasBooted apps at m s t
   pub messages : t.messages ≡ []
   pub slow : t.slow ≡ []
   pub locks : t.locks ≡ []
@@ -73,4 +80,4 @@ pub record HaveBooted (at : App → Node) (s t : SystemView) : Type 0 where
 -- waits for it (init(3), application(3), kernel(6), `distributed`).
 abbrev pub BootScriptsComeToOneState : Type 0
 BootScriptsComeToOneState = (s : SystemView) (g : BootTogether s)
-    → (k : ℕ) × (t : SystemView) × LeadsTo k s t × Reaches s t × IsSettled t × HaveBooted g.at s t
+    → (k : ℕ) × (t : SystemView) × LeadsTo k s t × Reaches s t × IsSettled t × HaveBooted g.apps g.at s t

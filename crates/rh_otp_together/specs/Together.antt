@@ -1,6 +1,6 @@
 -- Boot scripts of several nodes that begin at once, where their dist_acs know one another and nothing is started yet, and that every order
 -- of what comes of them ends alike.
-use Rattle.std.specs.Prelude.{◌≡◌, ◌≢◌, ◌⊎◌, ◌≤◌, ◌<◌, ◌-◌, ◌^◌, List, [], ◌∷◌, All, map, filter, length, true, false, Some}
+use Rattle.std.specs.Prelude.{◌≡◌, ◌≢◌, ◌⊎◌, ◌≤◌, ◌<◌, ◌-◌, ◌^◌, List, [], ◌∷◌, All, map, filter, length, Bool, not, true, false, Some}
 use Rattle.rh_model.specs.ClusterView.{boot_of, deps_of, is_permitted, is_platform}
 use Rattle.rh_model.specs.declared.node.App.{App}
 use Rattle.rh_model.specs.declared.node.Node.{Node}
@@ -66,9 +66,22 @@ LeavesTo m a d s x =
     ((is_among m (candidates_at (own_at s m) a d) ≡ true) × (first_of (candidates_at (own_at s m) a d) (places_of (own_at s m) a) ≡ Some x))
     ⊎ ((is_among m (candidates_at (own_at s m) a d) ≡ false) × (is_among x (candidates_at (own_at s m) a d) ≡ true))
 
+-- does the node boot the application, by its boot list (ours)?
+abbrev pub boots_at : SystemView → Node → App → Bool
+boots_at s m a = has_app a (map (λ (row : App × Restart). row.0) (boot_of s.cluster m))
+
+-- those of these applications that the node doesn't boot (ours)
+abbrev pub strangers_of : SystemView → Node → List App → List App
+strangers_of s m apps = filter (λ (a : App). not (boots_at s m a)) apps
+
+-- all these applications are left to the same node (ours)
+abbrev pub AreLeftToOne : (App → Node) → List App → Type 0
+AreLeftToOne at apps = All (λ (a : App). All (λ (c : App). (at a).0 ≡ (at c).0) apps) apps
+
 -- The node is up, and nothing has started there: its controller is as it began. Its dist_ac has nothing of starts, and knows of the others
--- exactly those that are alive, each once; the node sees each of them. Its boot list is in order; what of it is distributed are these
--- applications, in this order, and its dist_ac leaves each to the same node as those of the others do (ours).
+-- exactly those that are alive, each once; the node sees each of them. Its boot list is in order. The entries of it that its own
+-- `distributed` has are exactly those of these applications that it boots, in their order; its dist_ac leaves each of them to the same node
+-- as those of the others do. Those of these applications that it doesn't boot are all left to the same node (ours).
 pub record IsToBoot (apps : List App) (at : App → Node) (m : Node) (s : SystemView) : Type 0 where
   pub there : IsThere m s
   pub up : (node_at s m).phase ≡ phase.Up
@@ -82,17 +95,18 @@ pub record IsToBoot (apps : List App) (at : App → Node) (m : Node) (s : System
   pub sees : (x : Node) → x.0 ≢ m.0 → 1 ≤ times x s.alive → are_linked m x s.links ≡ true
   pub in_order : InOrder s m [] (boot_of s.cluster m)
   pub short : length (boot_of s.cluster m) < 2 ^ 64 - 1
-  pub distributed : distributed_of (own_at s m) (boot_of s.cluster m) ≡ apps
-  pub leaves : All (λ (a : App). LeavesTo m a dist s (at a)) apps
+  pub distributed : distributed_of (own_at s m) (boot_of s.cluster m) ≡ filter (boots_at s m) apps
+  pub leaves : All (λ (a : App). boots_at s m a ≡ true → LeavesTo m a dist s (at a)) apps
+  pub strangers : AreLeftToOne at (strangers_of s m apps)
 
--- Each node that is alive is to boot so, and each of their distributed applications is left to a node that is alive. Nothing else is left
--- to move: no message is on its way, no call is open, and nobody has a lock (ours).
+-- Each node that is alive is to boot so. Each of their distributed applications is left to a node that is alive, and boots it. Nothing else
+-- is left to move: no message is on its way, no call is open, and nobody has a lock (ours).
 pub record BootTogether (s : SystemView) : Type 0 where
   pub once : (m : Node) → times m s.alive ≤ 1
   pub apps : List App
   pub at : App → Node
   pub each : (m : Node) → 1 ≤ times m s.alive → IsToBoot apps at m s
-  pub runners : All (λ (a : App). 1 ≤ times (at a) s.alive) apps
+  pub runners : All (λ (a : App). (1 ≤ times (at a) s.alive) × (boots_at s (at a) a ≡ true)) apps
   pub nodes : List Node
   pub slow : s.slow ≡ map Boot nodes
   pub all : (m : Node) → times m nodes ≡ times m s.alive
