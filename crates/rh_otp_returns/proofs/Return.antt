@@ -23,6 +23,7 @@ use Rattle.rh_otp_laws.specs.Acting.{IsReached}
 use Rattle.rh_otp_orders.specs.Confluence.{EveryOrderEndsAlike}
 use Rattle.rh_otp_crashes.specs.Crashes.{FailOverLater}
 use Rattle.rh_otp_crashes.proofs.Turning.{own_in}
+use Rattle.rh_otp_stops.specs.Stops.{EndsAlike}
 use Rattle.rh_otp_starts.specs.Elsewhere.{candidates_at}
 use Rattle.rh_otp_scripts.specs.Scripts.{HasNoTuple, SeesRunners, BootsAlone, CanBoot}
 use Rattle.rh_otp_scripts.proofs.Script.{scripts_alike}
@@ -37,14 +38,14 @@ passes_it : (p : Node → Bool) (m : Node) (nodes : List Node) → is_among m (f
 passes_it p m nodes among = passes p m nodes (counted_in_list m (filter p nodes) among)
 
 -- each of the list that may run it, as a dist_ac knows, may run it
-candidate_may : (s : SystemView) (n m : Node) (a : App) (d : DistView) → is_among m (candidates_at (own_at s n) a d) ≡ true
+pub candidate_may : (s : SystemView) (n m : Node) (a : App) (d : DistView) → is_among m (candidates_at (own_at s n) a d) ≡ true
     → may_run d m a ≡ true
 candidate_may s n m a d among =
     passes_it (λ (k : Node). may_run d k a) m (map numbered (range_with_len 0 (length d.may)))
     (passes_it (λ (k : Node). is_among k (permitted d a)) m (backwards (own_at s n) a) among)
 
 -- what holds of each row holds of all
-all_rows : (P : App × Restart → Type 0) (rows : List (App × Restart)) → ((row : App × Restart) → P row) → All P rows
+pub all_rows : (P : App × Restart → Type 0) (rows : List (App × Restart)) → ((row : App × Restart) → P row) → All P rows
 all_rows P [] each = All-nil P
 all_rows P (row ∷ rows) each = All-cons P row rows (each row) (all_rows P rows each)
 
@@ -59,15 +60,20 @@ boots_alone n s t f slow = record {
   ends = f.ends;
 }
 
+-- what its boot list names has the same lists where nothing of the files and of the cluster has changed
+pub lists_still : (n : Node) (s t : SystemView) → t.files ≡ s.files → t.cluster ≡ s.cluster → CanBootThere n s → CanBootThere n t
+lists_still n s t files cluster can =
+    subst (λ (own_files : List OwnFile). All (λ (row : App × Restart). HasNoTuple (own_in own_files n) row.0) (boot_of t.cluster n))
+    (sym files)
+    (subst (λ (c : ClusterView). All (λ (row : App × Restart). HasNoTuple (own_at s n) row.0) (boot_of c n)) (sym cluster) can)
+
 can_boot : (n : Node) (s t : SystemView) → HasJoined n s t → CanBootThere n s → CanBoot n t
 can_boot n s t f can = record {
   alive = alive;
   requests = ap (λ (c : ControllerView). c.start_req) f.controller;
   sees_all = f.can_tell.sees_all;
   runners = λ d has. all_rows (λ (row : App × Restart). SeesRunners n row.0 d t) (boot_of t.cluster n) (λ row. runner d has row.0);
-  lists = subst (λ (files : List OwnFile). All (λ (row : App × Restart). HasNoTuple (own_in files n) row.0) (boot_of t.cluster n))
-      (sym f.files)
-      (subst (λ (c : ClusterView). All (λ (row : App × Restart). HasNoTuple (own_at s n) row.0) (boot_of c n)) (sym f.cluster) can);
+  lists = lists_still n s t f.files f.cluster can;
 }
   where
     alive : is_alive_at t n ≡ true
@@ -78,21 +84,25 @@ can_boot n s t f can = record {
         let there : is_alive_at t m ≡ true = f.runners d m a has apart (candidate_may t n m a d among) in
         (there, or_right (n.0 == m.0) (are_linked n m t.links) (f.sees n m alive there (λ same. apart (sym same))))
 
-fails_later : (n : Node) (s t : SystemView) → HasJoined n s t → (s.ends_soon ≡ true → FailOverLater s) → t.ends_soon ≡ true
-    → FailOverLater t
-fails_later n s t f later soon =
-    λ m. subst (λ (files : List OwnFile). All (λ (e : EntryView). 0 < e.timeout) (own_in files m).entries) (sym f.files)
-    (later (sym f.ends_soon ∙ soon) m)
+pub fails_later : (s t : SystemView) → t.files ≡ s.files → t.ends_soon ≡ s.ends_soon → (s.ends_soon ≡ true → FailOverLater s)
+    → t.ends_soon ≡ true → FailOverLater t
+fails_later s t files ends_soon later soon =
+    λ m. subst (λ (own_files : List OwnFile). All (λ (e : EntryView). 0 < e.timeout) (own_in own_files m).entries) (sym files)
+    (later (sym ends_soon ∙ soon) m)
+
+-- and so by any two orders that `settle` is told
+pub by_any_two : (s : SystemView) → EveryOrderEndsAlike (uncounted s) → EndsAlike (uncounted s)
+by_any_two s ends = (
+  ends,
+  λ most one other quiet quiet_too.
+      ends.alike (settled most one s) (settled most other s) (settles most one s).0 ((settles most one s).1 quiet) (settles most other s).0
+      ((settles most other s).1 quiet_too),
+)
 
 -- ---- the law
 
 pub returns_alike : ReturnsEndAlike
-returns_alike s n reached rest back can later = (
-  ends,
-  λ most one other quiet quiet_too.
-      ends.alike (settled most one (booted n s)) (settled most other (booted n s)) (settles most one (booted n s)).0
-      ((settles most one (booted n s)).1 quiet) (settles most other (booted n s)).0 ((settles most other (booted n s)).1 quiet_too),
-)
+returns_alike s n reached rest back can later = by_any_two (booted n s) ends
   where
     all : (t : SystemView) × IsReached t × HasJoined n s t × (t.slow ≡ Boot n ∷ [])
         × (EveryOrderEndsAlike t → EveryOrderEndsAlike (uncounted (booted n s)))
@@ -104,4 +114,5 @@ returns_alike s n reached rest back can later = (
     ends : EveryOrderEndsAlike (uncounted (booted n s))
     ends =
         all.4
-        (scripts_alike t n all.1 (boots_alone n s t all.2 all.3) (can_boot n s t all.2 can) (fails_later n s t all.2 later)).0
+        (scripts_alike t n all.1 (boots_alone n s t all.2 all.3) (can_boot n s t all.2 can)
+        (fails_later s t all.2.files all.2.ends_soon later)).0

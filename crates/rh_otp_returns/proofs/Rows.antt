@@ -56,6 +56,7 @@ use Rattle.rh_otp_scripts.proofs.Rows.{cluster, none_begun, one_up, first_reache
 use Rattle.rh_otp_waits.specs.Waits.{HasItWait}
 use Rattle.rh_otp_joins.specs.Joins.{ComesBack}
 use Rattle.rh_otp_returns.specs.Returns.{CanBootThere}
+use Rattle.rh_otp_returns.proofs.Return.{lists_still}
 
 -- ---- what happens
 
@@ -161,24 +162,19 @@ comes_back s first so none = record {
     listed (suc (suc k)) =
         ap (λ (b : Bool). b || false) (ne_eqb (suc (suc k)) 0 (λ is. omega (arith, is))) ∙ sym (none k)
 
-can_boot : (s : SystemView) → OneUp s → CanBootThere n2 s
-can_boot s so =
-    subst (λ (files : List OwnFile). All (λ (row : App × Restart). HasNoTuple (own_in files n2) row.0) (boot_of s.cluster n2))
-    (sym so.files)
-    (subst (λ (c : ClusterView). All P (boot_of c n2)) (sym so.nodes) lists)
+-- no list of what the second node boots has a tuple
+pub no_tuples : CanBootThere n2 none_begun
+no_tuples =
+    All-cons P (d1, Temporary) ((l1, Temporary) ∷ [])
+    (All-cons Q (record { is_tuple = false; nodes = n1 ∷ [] }) (record { is_tuple = false; nodes = n2 ∷ [] } ∷ []) refl
+    (All-cons Q (record { is_tuple = false; nodes = n2 ∷ [] }) [] refl (All-nil Q)))
+    (All-cons P (l1, Temporary) [] (All-nil Q) (All-nil P))
   where
     P : App × Restart → Type 0
     P row = HasNoTuple file.own row.0
 
     Q : WrittenView → Type 0
     Q w = w.is_tuple ≡ false
-
-    lists : All P ((d1, Temporary) ∷ (l1, Temporary) ∷ [])
-    lists =
-        All-cons P (d1, Temporary) ((l1, Temporary) ∷ [])
-        (All-cons Q (record { is_tuple = false; nodes = n1 ∷ [] }) (record { is_tuple = false; nodes = n2 ∷ [] } ∷ []) refl
-        (All-cons Q (record { is_tuple = false; nodes = n2 ∷ [] }) [] refl (All-nil Q)))
-        (All-cons P (l1, Temporary) [] (All-nil Q) (All-nil P))
 
 fails_later : (s : SystemView) → OneUp s → FailOverLater s
 fails_later s so n =
@@ -202,7 +198,7 @@ row = record {
   reached = is_reached;
   rest = are_at_rest one_left first_there is_up no_more ((settles 1000 FirstComes (crashed n2 both_up)).1 is_quiet);
   back = comes_back one_left first_there is_up no_more;
-  can = can_boot one_left is_up;
+  can = lists_still n2 none_begun one_left is_up.files is_up.nodes no_tuples;
   life = is_up.life;
   soon = is_up.soon;
   later = fails_later one_left is_up;

@@ -20,7 +20,7 @@ use Rattle.rh_otp_crashes.proofs.Peace.{without, taken_all, delivers}
 abbrev pub IsMute : SystemView → Envelope → Type 0
 IsMute s e = (l : List Envelope) → arrived e.to e.message (without s l) ≡ without s l
 
-taken_fewer : (e : Envelope) (messages left : List Envelope) → Taken e messages left → length messages ≡ suc (length left)
+pub taken_fewer : (e : Envelope) (messages left : List Envelope) → Taken e messages left → length messages ≡ suc (length left)
 taken_fewer e [] left taken = absurd taken
 taken_fewer e (m ∷ messages) left (inl first) = ap (λ (l : List Envelope). suc (length l)) (sym first.1)
 taken_fewer e (m ∷ messages) left (inr later) =

@@ -127,7 +127,7 @@ file = record { own = record { has_dist = true; entries = entry d1 5000 ∷ entr
 
 -- ---- what happens
 
-abbrev no_net : NetView
+abbrev pub no_net : NetView
 no_net = record {
   clock = 0;
   step = 0;
@@ -328,12 +328,12 @@ rest_so s quiet =
     let afresh : SystemView = record s { answers = [] } in
     subst IsSettled (stays (next_move FirstComes afresh) afresh quiet) ((settles 1 FirstComes s).1 quiet)
 
-has_it : (o : Option DistView) (d : DistView) → is_some o ≡ true → o ≡ Some (unwrap_or o d)
+pub has_it : (o : Option DistView) (d : DistView) → is_some o ≡ true → o ≡ Some (unwrap_or o d)
 has_it None d is = absurd (false≢true is)
 has_it (Some e) d is = refl
 
 -- what is so of the second node is so of each that is alive
-of_alive : (P : Node → Type 0) (s : SystemView) → IsAlone s → P n2 → (k : ℕ) → is_alive_at s (record { 0 = k }) ≡ true
+pub of_alive : (P : Node → Type 0) (s : SystemView) → IsAlone s → P n2 → (k : ℕ) → is_alive_at s (record { 0 = k }) ≡ true
     → P (record { 0 = k })
 of_alive P s none is k alive =
     elim (cases_eq k 1) [

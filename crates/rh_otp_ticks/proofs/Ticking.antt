@@ -14,7 +14,6 @@ use Rattle.rh_otp_laws.specs.Acting as acting
 use Rattle.rh_otp_laws.specs.Acting.{IsReached, later}
 use Rattle.rh_otp_laws.proofs.Commands.{commands_reached}
 use Rattle.rh_otp_laws.proofs.Hanging.{settled_stays_so}
-use Rattle.rh_otp_laws.proofs.Time.{due_fire}
 use Rattle.rh_otp_orders.specs.Confluence.{Moves, EveryOrderEndsAlike}
 use Rattle.rh_otp_orders.specs.Orders.{AreAlike}
 use Rattle.rh_otp_orders.proofs.Confluence.{alike_itself, alike_and_alike, counted, reached_on}
@@ -27,21 +26,13 @@ use Rattle.rh_otp_crashes.specs.Crashes.{AreAtRest}
 use Rattle.rh_otp_crashes.specs.Failovers.{FailsOverAt, StandsBy, IsOver}
 use Rattle.rh_otp_crashes.proofs.Failover.{failovers_alike}
 use Rattle.rh_otp_ticks.specs.LeftOver.{AreLeftOver, IsLeftOver, ChangesNothing, behind_timers}
-use Rattle.rh_otp_ticks.specs.Moments.{fired_at, passing, EachMomentIsCovered, over, left_over, fails_over, otherwise, TicksThroughMomentsEndAlike}
+use Rattle.rh_otp_ticks.specs.Moments.{fired_at, passing, EachMomentIsCovered, over, left_over, fails_over, wait_ends, otherwise, TicksThroughMomentsEndAlike}
 use Rattle.rh_otp_ticks.proofs.Firing.{left_over_alike, at_another}
 use Rattle.rh_otp_ticks.proofs.Following.{every_too}
-use Rattle.rh_otp_ticks.proofs.Timely.{settled_in_time}
+use Rattle.rh_otp_ticks.proofs.Forgetting.{forgetting, forgets_first, forgets, rest_still, forgotten_reached}
+use Rattle.rh_otp_ticks.proofs.WaitsEnd.{wait_settles_alike}
 
 -- ---- no answers are counted
-
-abbrev forgetting : SystemView → SystemView
-forgetting s = record s { answers = [] }
-
-forgets_first : (due : ℕ) (s : SystemView) → fired_next due (forgetting s) ≡ fired_at due s
-forgets_first due s = due_fire (forgetting s) due ∙ sym (ap forgetting (due_fire s due))
-
-forgets : (s : SystemView) → IsSettled s → IsSettled (forgetting s)
-forgets s at = settled_in_time s.clock s.timers [] s at
 
 left_over_still : (s : SystemView) → AreLeftOver s → AreLeftOver (forgetting s)
 left_over_still s rows = record {
@@ -51,9 +42,6 @@ left_over_still s rows = record {
   all = All-weaker (IsLeftOver s) (IsLeftOver (forgetting s)) (at_another s.clock s.timers [] s.messages s) (timers.fired s.timers)
       rows.all;
 }
-
-rest_still : (s : SystemView) → AreAtRest s → AreAtRest (forgetting s)
-rest_still s rest = record { settled = forgets s rest.settled; calls = rest.calls; dists = rest.dists }
 
 fails_still : (s : SystemView) (n : Node) (a : App) → FailsOverAt n a s → FailsOverAt n a (forgetting s)
 fails_still s n a fails = record {
@@ -102,9 +90,6 @@ record Fires (s t : SystemView) : Type 0 where
   every : SettlesAlike (fired_next due s)
   reaches : Reaches (fired_at due s) t
   settled : IsSettled t
-
-forgotten_reached : (s : SystemView) → IsReached s → IsReached (forgetting s)
-forgotten_reached s reached = later s (forgetting s) reached (acting.settles s)
 
 moment : (times end most : ℕ) (order : Order) (s t : SystemView) → Fires s t → OfAllAlike times end most order t
     → OfAllAlike (suc times) end most order s
@@ -186,6 +171,15 @@ each_moment times end most order _ at (fails_over s t n a rest fails reaches set
       step = fails.step;
       next = fails.next;
       every = fails_alike s n a reached rest fails;
+      reaches = reaches;
+      settled = settled_t;
+    }) (go t settled_t more) s' same reached reached'
+each_moment times end most order _ at (wait_ends s t n rest timed wait reaches settled_t more) go = λ s' same reached reached'.
+    moment times end most order s t (record {
+      due = wait.due;
+      step = wait.step;
+      next = wait.next;
+      every = wait_settles_alike s n reached rest timed wait;
       reaches = reaches;
       settled = settled_t;
     }) (go t settled_t more) s' same reached reached'

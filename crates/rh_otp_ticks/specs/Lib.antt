@@ -1,2 +1,3 @@
 pub mod LeftOver
+pub mod WaitsEnd
 pub mod Moments

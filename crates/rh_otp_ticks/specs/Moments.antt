@@ -9,9 +9,10 @@ use Rattle.rh_otp_system.specs.Moves.{Reaches, IsSettled}
 use Rattle.rh_otp_system.specs.State.{SystemView}
 use Rattle.rh_otp_laws.specs.Acting.{IsReached}
 use Rattle.rh_otp_commands.specs.Commands.{SettlesAlike, TickEndsAlike}
-use Rattle.rh_otp_crashes.specs.Crashes.{AreAtRest}
+use Rattle.rh_otp_crashes.specs.Crashes.{AreAtRest, FailOverLater}
 use Rattle.rh_otp_crashes.specs.Failovers.{FailsOverAt}
 use Rattle.rh_otp_ticks.specs.LeftOver.{AreLeftOver, behind_timers}
+use Rattle.rh_otp_ticks.specs.WaitsEnd.{WaitEnds}
 
 -- the timers of this moment have fired, and no answers of nodes to one another are counted yet
 abbrev pub fired_at : ℕ → SystemView → SystemView
@@ -27,6 +28,10 @@ pub data EachMomentIsCovered (end : ℕ) : SystemView → Type 0 where
   -- they are those of a failover, of live nodes that are at rest, and so on behind what that comes to by one order, be they due by the end
   -- or not
   fails_over : (s t : SystemView) (n : Node) (a : App) → AreAtRest s → (fails : FailsOverAt n a s) → Reaches (fired_at fails.due s) t
+      → IsSettled t → EachMomentIsCovered end t → EachMomentIsCovered end s
+  -- it is the end of the wait of a node, which hasn't seen one that it must have and so ends; of live nodes that are at rest, and of which
+  -- none starts at once what is lost; and so on behind what that comes to by one order
+  wait_ends : (s t : SystemView) (n : Node) → AreAtRest s → FailOverLater s → (ends : WaitEnds n s) → Reaches (fired_at ends.due s) t
       → IsSettled t → EachMomentIsCovered end t → EachMomentIsCovered end s
   -- all that comes of them ends alike for another reason, and so on behind what it comes to by one order
   otherwise : (s t : SystemView) (due step : ℕ) → next_due s.timers ≡ Some (due, step) → SettlesAlike (fired_next due s)
