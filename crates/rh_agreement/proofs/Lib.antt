@@ -5,7 +5,7 @@ pub mod Refusing
 pub mod Resting
 pub mod Stepping
 pub mod Quiet
-mod Ending
+pub mod Ending
 mod Crashing
 pub mod Bounded
 mod CrashAlike

@@ -33,7 +33,7 @@ use Rattle.rh_agreement_failovers.proofs.Starting.{CanStartIt}
 use Rattle.rh_agreement_failovers.proofs.Starting as starting
 use Rattle.rh_agreement_failovers.proofs.Turns.{kind_of}
 use Rattle.rh_agreement_ticks.specs.Passing.{FailsOverLive}
-use Rattle.rh_agreement_ticks.proofs.OnWay.{OnWay}
+use Rattle.rh_agreement_ticks.proofs.OnWay.{OnWay, alive_so}
 use Rattle.rh_agreement_ticks.proofs.Running.{afresh, underway_afresh, runs_on}
 use Rattle.rh_agreement_ticks.proofs.Unseen.{behind_these}
 
@@ -194,8 +194,8 @@ module _ (l : LiveSimView) (end : ℕ) (s : SystemView) (way : OnWay l end s) (n
     files = follows.keeps.files ∙ way.files;
     soon = follows.keeps.soon ∙ way.soon;
     cells = follows.keeps.cells ∙ way.cells;
-    phases = λ k. follows.keeps.phases k ∙ way.phases k;
     lives = λ k. follows.still.peace.same_lives k ∙ way.lives k;
+    nobody = λ k there. alive_so s over_behind k (follows.keeps.phases k) ∙ way.nobody k there;
   }
 
   abbrev pub then : SystemView
@@ -203,6 +203,10 @@ module _ (l : LiveSimView) (end : ℕ) (s : SystemView) (way : OnWay l end s) (n
 
   pub then_way : OnWay l end then
   then_way = subst (OnWay l end) (sym leads) over_way
+
+  -- each node is as far as it was
+  pub then_phases : (k : Node) → (node_at then k).phase ≡ (node_at s k).phase
+  then_phases k = ap (λ (x : SystemView). (node_at x k).phase) leads ∙ follows.keeps.phases k
 
   pub then_seen : then.events ≡ s.events ++ seen.Started a n (kind_of s.cluster a fails.first.gone) ∷ []
   unfolding can_start

@@ -32,7 +32,8 @@ use Rattle.rh_agreement.specs.Resting.{held}
 use Rattle.rh_agreement.proofs.Rest.{AreIdle, IsOver, idle_at_rest, nobody_there}
 use Rattle.rh_agreement_ticks.proofs.LeftOver as left_over
 
--- Live nodes reach it, and are at rest. It isn't later than the end of the tick, and nodes are as far as where it began.
+-- Live nodes reach it, and are at rest. It isn't later than the end of the tick, and each node is in the life in which it was where that
+-- began. A number that no node has none has.
 pub record OnWay (l : LiveSimView) (end : ℕ) (s : SystemView) : Type 0 where
   pub reached : IsReached s
   pub rest : AreAtRest s
@@ -41,11 +42,12 @@ pub record OnWay (l : LiveSimView) (end : ℕ) (s : SystemView) : Type 0 where
   pub files : s.files ≡ l.files
   pub soon : s.ends_soon ≡ false
   pub cells : length s.nodes.cells ≡ length l.history.now
-  pub phases : (k : Node) → (node_at s k).phase ≡ (node_at (held l) k).phase
   pub lives : (k : Node) → (node_at s k).life ≡ (node_at (held l) k).life
+  pub nobody : (k : Node) → k.0 ≡ node_count l.cluster → is_alive_at s k ≡ false
 
-pub alive_so : (l : LiveSimView) (end : ℕ) (s : SystemView) → OnWay l end s → (k : Node) → is_alive_at s k ≡ is_alive_at (held l) k
-alive_so l end s way k = ap (λ (p : Phase). cond (is_down p) false true) (way.phases k)
+-- a node that is as far as in another system is alive if it is there
+pub alive_so : (s t : SystemView) (k : Node) → (node_at t k).phase ≡ (node_at s k).phase → is_alive_at t k ≡ is_alive_at s k
+alive_so s t k same = ap (λ (p : Phase). cond (is_down p) false true) same
 
 no_place : (k : ℕ) → k < 0 → ⊥
 no_place k below = omega (arith, below)
@@ -87,8 +89,8 @@ module _ (l : LiveSimView) (ms : ℕ) (reached : IsReached (held l)) (rest : Are
     files = refl;
     soon = refl;
     cells = refl;
-    phases = λ k. refl;
     lives = λ k. refl;
+    nobody = nobody_there l reached;
   }
 
 -- ---- timers that are left over have fired
@@ -115,8 +117,8 @@ module _ (l : LiveSimView) (end : ℕ) (s : SystemView) (way : OnWay l end s) (r
     files = way.files;
     soon = way.soon;
     cells = way.cells;
-    phases = way.phases;
     lives = way.lives;
+    nobody = way.nobody;
   }
 
 -- ---- the tick ends
@@ -157,5 +159,5 @@ module _ (l : LiveSimView) (end : ℕ) (reached : IsReached (held l)) (inside : 
     is_quiet = (settled_stays_so s s way.rest.settled (here s)).0;
     cluster = way.cluster;
     files = way.files;
-    nobody = λ k there. alive_so l end s way k ∙ nobody_there l reached k there;
+    nobody = way.nobody;
   }

@@ -202,11 +202,8 @@ second_alive = at (node_at awake b).phase second_up
 abbrev then : SystemView
 then = settled most_moves live_four.order (fired_next live.failover.due awake)
 
-then_way : OnWay live_four 12000 then
-then_way = failover.then_way live_four 12000 awake way b a web second_alive live
-
 still_up : (n : Node) → is_up_at awake n ≡ true → is_up_at then n ≡ true
-still_up n is = ap is_phase_up (then_way.phases n ∙ sym (way.phases n)) ∙ is
+still_up n is = ap is_phase_up (failover.then_phases live_four 12000 awake way b a web second_alive live n) ∙ is
 
 -- ---- so the law is of it
 
@@ -219,7 +216,7 @@ unfolding by_rules
 passes =
     fails_over state_four awake b a web [] by_rules live
     (all_left_over live_four.order (failed_over by_rules.due b a web state_four) then
-    (alive_so live_four 12000 then then_way a ∙ sym (alive_so live_four 12000 awake way a) ∙ first_down)
+    (alive_so awake then a (failover.then_phases live_four 12000 awake way b a web second_alive live a) ∙ first_down)
     (still_up b second_up) (still_up c third_up)
     (failover.then_timers live_four 12000 awake way b a web second_alive live ∙ left_is) refl)
 

@@ -60,7 +60,7 @@ underway_afresh {lives} {n} {a} s f = record {
 
 -- ---- where no message is on its way nothing moves
 
-none_quiet : {P : Node → DistView → Type 0} {K : Envelope → Type 0} {lives : Node → ℕ} (s : SystemView) → AtPeace P K lives s
+pub none_quiet : {P : Node → DistView → Type 0} {K : Envelope → Type 0} {lives : Node → ℕ} (s : SystemView) → AtPeace P K lives s
     → quiet_move s ≡ None
 none_quiet s f =
     none_goes_on s f.calls

@@ -1,5 +1,5 @@
--- What is told of a tick by the manual's rules, and what was seen of it on live nodes: failovers, however many. Both say it in the same
--- words.
+-- What is told of a tick by the manual's rules, and what was seen of it on live nodes: failovers and ends of nodes, however many. Both say
+-- it in the same words.
 use Rattle.std.proofs.Common.{◌≡◌, ◌≢◌, ◌==◌, ◌++◌, ◌&&◌, ℕ, Bool, true, false, not, cond, codes, filter_map, List, [], ◌∷◌, Some, refl, sym, ap, subst, ◌∙◌}
 use Rattle.std.specs.List.{flat_map}
 use Rattle.std.proofs.lemmas.Bool.{ne_eqb}
@@ -37,6 +37,8 @@ pub data Tells (c : ClusterView) : List Notice → List Event → List Line → 
       → from.0 ≢ n.0 → Tells c notes events lines
       → Tells c (notice.Started a n (start_kind s a (Some from) n) (Some from) ∷ notes) (seen.Started a n (kind_of c a from) ∷ events)
       (line.Started a n (kind_of c a from) ∷ lines)
+  ended : (n : Node) (notes : List Notice) (events : List Event) (lines : List Line) → Tells c notes events lines
+      → Tells c (notice.Ended n ∷ notes) (seen.Ended n ∷ events) (line.Ended n ∷ lines)
 
 -- ---- in the same words
 
@@ -48,6 +50,10 @@ start_line c n from a true same other =
     ap (λ (b : Bool). notice_line c (notice.Started a n (cond (not b) (kind.Failover from) kind.Normal) (Some from))) other
 start_line c n from a false same other = refl
 
+end_line : (c : ClusterView) (n : Node) → notice_line c (notice.Ended n) ≡ line_text c (line.Ended n)
+unfolding notice_line line_text
+end_line c n = refl
+
 same_lines : (c : ClusterView) (notes : List Notice) (events : List Event) (lines : List Line) → Tells c notes events lines
     → flat_map (notice_line c) notes ≡ flat_map (line_text c) lines
 same_lines c _ _ _ nothing = refl
@@ -58,6 +64,9 @@ same_lines c _ _ _ (start s n from a notes events lines cluster elsewhere rest) 
     ∙ start_line c n from a (has_phases c a) (from.0 == n.0) (ne_eqb from.0 n.0 elsewhere) in
     let more : flat_map (notice_line c) notes ≡ flat_map (line_text c) lines = same_lines c notes events lines rest in
     λ i. first i ++ more i
+same_lines c _ _ _ (ended n notes events lines rest) =
+    let more : flat_map (notice_line c) notes ≡ flat_map (line_text c) lines = same_lines c notes events lines rest in
+    λ i. end_line c n i ++ more i
 
 pub same_text : (l : LiveSimView) (notes : List Notice) (events : List Event) (lines : List Line) → Tells l.cluster notes events lines
     → answer_text l.cluster (reply.Done notes) ≡ reply_text l (live_reply.Step (live.Done (well lines)))
@@ -71,12 +80,15 @@ lines_so : (c : ClusterView) (notes : List Notice) (events : List Event) (lines 
 lines_so c _ _ _ all before nothing = refl
 lines_so c _ _ _ all before (start s n from a notes events lines cluster elsewhere rest) =
     ap (λ (more : List Line). line.Started a n (kind_of c a from) ∷ more) (lines_so c notes events lines all before rest)
+lines_so c _ _ _ all before (ended n notes events lines rest) =
+    ap (λ (more : List Line). line.Ended n ∷ more) (lines_so c notes events lines all before rest)
 
 none_asked : (c : ClusterView) (notes : List Notice) (events : List Event) (lines : List Line) (s : SystemView) (all : List Event)
     (w : WaitingView) → Tells c notes events lines → events_asked s all events w ≡ w
 none_asked c _ _ _ s all w nothing = refl
 none_asked c _ _ _ s all w (start st n from a notes events lines cluster elsewhere rest) =
     none_asked c notes events lines s all w rest
+none_asked c _ _ _ s all w (ended n notes events lines rest) = none_asked c notes events lines s all w rest
 
 pub happens_so : (l : LiveSimView) (last : SystemView) (notes : List Notice) (events : List Event) (lines : List Line)
     → Tells l.cluster notes events lines → last.events ≡ events → last.calls ≡ [] → happened (net_in l) last ≡ well lines

@@ -1,12 +1,15 @@
 -- A tick through several moments is answered alike, refused or not, and both are at rest again.
-use Rattle.std.proofs.Common.{◌≡◌, ◌≤◌, ◌+◌, ◌^◌, ◌++◌, ℕ, Bool, true, false, cond, nat_lt, List, [], None, refl, sym, ap, subst, ◌∙◌, arith}
+use Rattle.std.proofs.Common.{◌≡◌, ◌<◌, ◌≤◌, ◌+◌, ◌^◌, ◌++◌, ℕ, Bool, true, false, cond, nat_lt, List, [], None, refl, sym, ap, subst, ◌∙◌, arith}
 use Rattle.std.proofs.lemmas.Bool.{lt-ltb, ltb-false}
+use Rattle.rh_model.specs.ClusterView.{ClusterView, node_count}
+use Rattle.rh_model.specs.declared.node.Node.{Node}
 use Rattle.rh_rules.specs.declared.event.Event.{Event}
 use Rattle.rh_rules.specs.declared.event.Event.TheVariants as event
 use Rattle.rh_rules.specs.declared.notice.Notice.{Notice}
 use Rattle.rh_rules.specs.Refusals.{refused}
 use Rattle.rh_calls.specs.declared.call.Call.TheVariants as call
 use Rattle.rh_calls.specs.declared.call.Reply.TheVariants as reply
+use Rattle.rh_state.specs.declared.status.Mode.{Mode}
 use Rattle.rh_state.specs.StateView.{StateView, mode_of}
 use Rattle.rh_trace.proofs.NextMoves.{up_within}
 use Rattle.rh_trail.specs.Lone.{served}
@@ -22,6 +25,8 @@ use Rattle.rh_otp_system.specs.Doing.{passed, is_past, ticking as began_ticking,
 use Rattle.rh_otp_system.specs.Moves.{next_move, settled, is_settled_by}
 use Rattle.rh_otp_system.specs.Resting.{rested, forgotten}
 use Rattle.rh_otp_system.specs.State.{SystemView}
+use Rattle.rh_otp_crashes.proofs.Deeds.{AreLater}
+use Rattle.rh_otp_crashes.proofs.Turning.{own_in}
 use Rattle.rh_agreement.specs.Telling.{GoTogether}
 use Rattle.rh_agreement.specs.Laws.{IsAnsweredAlike, HasRoom, ticking}
 use Rattle.rh_agreement.specs.Resting.{AreBothAtRest, AreAlwaysAtRest}
@@ -31,13 +36,14 @@ use Rattle.rh_agreement.proofs.Refusing.{nodes_events_alike}
 use Rattle.rh_agreement.proofs.Resting.{moved_not, quiet_so}
 use Rattle.rh_agreement.proofs.Stepping.{refused_or_made, unchanged_or_made}
 use Rattle.rh_agreement_calls.proofs.CallAlike.{up_is_alive}
-use Rattle.rh_agreement_failovers.proofs.Alike.{Passes, alike, rests, says, always_rests}
 use Rattle.rh_agreement_ticks.specs.Passing.{PassAlike, PassesAlike, TicksThroughMomentsAreAnsweredAlike, IsATickThroughMoments}
+use Rattle.rh_agreement_ticks.proofs.Answered.{Passes, alike, rests, says, always_rests}
 use Rattle.rh_agreement_ticks.proofs.ByRules.{ComesTo, by_rules}
 use Rattle.rh_agreement_ticks.proofs.LeftOver.{none_next}
+use Rattle.rh_agreement_ticks.proofs.Modes.{mode_in}
 use Rattle.rh_agreement_ticks.proofs.OnWay.{OnWay, first_way, is_over}
 use Rattle.rh_agreement_ticks.proofs.Telling.{same_text, happens_so}
-use Rattle.rh_agreement_ticks.proofs.Through.{Comes, AreAlive, through}
+use Rattle.rh_agreement_ticks.proofs.Through.{Comes, AreAlive, AreAsFar, through}
 
 -- ---- a tick of live nodes
 
@@ -99,8 +105,17 @@ module _ (sim : SimView) (l : LiveSimView) (ms : ℕ) (notes : List Notice) (tog
   unfolding forgotten
   silent = refl
 
+  timed : (m : Node) → AreLater (own_in l.files m)
+  unfolding forgotten
+  timed = at_rest.later
+
   comes : Comes l end most_moves awake notes
-  comes = through l end most_moves s awake notes passes_live how.few how.few way alive together.now.cluster
+  comes = through l end timed most_moves s awake notes passes_live how.few how.few way alive together.now.cluster
+
+  -- nodes are as far where it begins
+  far_first : AreAsFar l s.modes awake
+  unfolding forgotten
+  far_first k within = together.now.modes k (subst (λ (c : ClusterView). k.0 < node_count c) together.now.cluster within)
 
   none_first : next_move l.order awake ≡ None
   none_first = none_next l.order awake way.rest.settled
@@ -158,14 +173,15 @@ module _ (sim : SimView) (l : LiveSimView) (ms : ℕ) (notes : List Notice) (tog
       comes = by_manual.comes;
       cluster = by_manual.cluster;
       time = by_manual.time;
-      modes = by_manual.modes;
       begun = by_manual.begun;
       last = last;
       runs = ap rested acts;
       ends = ends;
       over = is_over l end at_rest.reached together.now.cells comes.then comes.way comes.none;
       clock = refl;
-      phases = comes.way.phases;
+      far = λ k known.
+          comes.far s.modes far_first k (subst (λ (c : ClusterView). k.0 < node_count c) (sym together.now.cluster) known)
+          ∙ sym (ap (λ (modes : List Mode). mode_in modes k.0) by_manual.modes);
       lives = comes.way.lives;
       happens = happens_so l last notes comes.seen comes.lines comes.tells last_events last_calls;
       same_text = same_text l notes comes.seen comes.lines comes.tells;
