@@ -10,13 +10,15 @@ needs it. Of a distributed one: a takeover where it waits by both, and runs by b
 it needs runs there by both, and nothing that waits there needs it; a permission where no node waits and it isn't lost: a forbid where it
 doesn't run, and a permit where it runs; and a permit where it waits and is forbidden, by which it starts or, in the second profile, is
 called back to the first node that can run it. A tick before which one distributed application is lost by both reports, and in which it
-alone starts. A boot by which nodes wait on, where each other one that isn't alive has never booted: so none has seen one that is gone. And
-the last boot of a cold start, where each node waits for all others, all others wait and have booted once, and boot lists are in order.
+alone starts; and one in which nodes end with their waits, each of which must have one that is down and has never booted. A boot by which
+nodes wait on, where each other one that isn't alive has never booted: so none has seen one that is gone. And the last boot of a cold start,
+where each node waits for all others, all others wait and have booted once, and boot lists are in order, with all that is distributed but
+what is left to one node.
 """
 from collections.abc import Callable
 from typing import Optional
 
-from live_conditions import State, Step, lacks_lists
+from live_conditions import State, Step, boot_in_order_but_for_one, first_nodes, lacks_lists
 
 from rehearse_tools.inputs import words_of
 from rehearse_tools.otp25.cluster import ClusterFile
@@ -145,6 +147,18 @@ def is_failover(step: Step, states: States) -> bool:
     return not any(isinstance(group, tuple) for app in lost[0] for group in step.cluster.entries[app].groups)
 
 
+def is_end_of_wait(step: Step, states: States) -> bool:
+    """Time passes where no application is lost, and nodes end by the first rules, and nothing else. By both reports each node is down,
+    waits or is up alike, and none is down that has ever booted: so none has seen one that is gone. Each that ends must have one that was
+    down before. (The law asks that no other timer is due at that moment on live nodes.)"""
+    if step.word != "tick" or len(step.answer) < 2 or not all(line.startswith("ended ") for line in step.answer[1:]):
+        return False
+    is_same = states[0].mode == states[1].mode and not any(state.lost for state in states)
+    down = {node for node, mode in step.before.mode.items() if mode == "down"}
+    ended = [step.cluster.nodes[words_of(line)[1]] for line in step.answer[1:]]
+    return is_same and not any(step.before.boots[node] for node in down) and all(down & set(node.mandatory) for node in ended)
+
+
 def is_waiting_boot(step: Step, _: States) -> bool:
     """A node boots where each node waits for all others, and no wait is over behind it; the others that aren't alive have never booted."""
     if step.word != "boot" or lacks_lists(step.cluster) or step.answer != ["ok"]:
@@ -153,17 +167,18 @@ def is_waiting_boot(step: Step, _: States) -> bool:
 
 
 def boots_in_order(cluster: ClusterFile, forbidden: dict[str, list[str]]) -> bool:
-    """All nodes boot the same distributed applications in one order. What an application needs of the cluster's stands before it and isn't
-    distributed (names of the platform aren't asked for). What isn't distributed isn't forbidden where it is booted; each distributed one
-    that is booted may run at some node. No list has a tuple."""
+    """Nodes boot what is distributed in one order, and what one of them doesn't boot is left to one node (`boot_in_order_but_for_one`). The
+    first node at which such an application isn't forbidden boots it, and no list has a tuple. What an application needs of the cluster's
+    stands before it and isn't distributed (names of the platform aren't asked for). What isn't distributed isn't forbidden where it is
+    booted."""
     lists = {name: [app for app, _ in node.boot] for name, node in cluster.nodes.items()}
-    spread = [[app for app in apps if app in cluster.entries] for apps in lists.values()]
+    first = first_nodes(cluster, forbidden)
     needs = [(apps[:place], need) for apps in lists.values() for place, app in enumerate(apps) for need in cluster.apps[app].needs]
     is_late = any(need in cluster.apps and (need in cluster.entries or need not in before) for before, need in needs)
     is_barred = any(app not in cluster.entries and app in forbidden[node] for node, apps in lists.items() for app in apps)
-    is_nowhere = any(all(app in apps for apps in forbidden.values()) for app in spread[0])
+    is_nowhere = any(node is None or app not in lists[node] for app, node in first.items())
     has_tuple = any(isinstance(group, tuple) for entry in cluster.entries.values() for group in entry.groups)
-    return all(apps == spread[0] for apps in spread) and not (is_late or is_barred or is_nowhere or has_tuple)
+    return boot_in_order_but_for_one(cluster, first) and not (is_late or is_barred or is_nowhere or has_tuple)
 
 
 def is_last_boot(step: Step, _: States) -> bool:
@@ -184,7 +199,8 @@ def is_last_boot(step: Step, _: States) -> bool:
 KINDS: dict[str, tuple[Callable[[Step, States], bool], int]] = {
     "stop": (is_stop, 40), "exit": (is_exit, 10), "forbid": (is_forbid, 60), "start": (is_start, 20), "takeover": (is_takeover, 100),
     "permission": (is_permission, 150), "permit that starts": (is_grant, 3), "permit that calls back": (is_call_back, 1),
-    "failover": (is_failover, 15), "boot that waits": (is_waiting_boot, 3_000), LAST_BOOT: (is_last_boot, 40)}
+    "failover": (is_failover, 15), "wait that ends its node": (is_end_of_wait, 30), "boot that waits": (is_waiting_boot, 3_000),
+    LAST_BOOT: (is_last_boot, 40)}
 
 
 def kind_of(step: Step, live: list[str], state: State) -> Optional[str]:

@@ -31,7 +31,7 @@ from live_conditions import (Condition, State, Step, careful, has_other_platform
                              lacks_lists, may_be_lost_together, needs_a_distributed_one, state_of)
 from live_rules import split_answers
 from random_live import CAREFUL, KINDS, Rehearsal, rehearsal
-from random_spread import gathering, loss, loss_of_several, moving, returning
+from random_spread import gathering, gathering_apart, loss, loss_of_several, moving, returning
 from support import COMMANDS, TOP, fault_of, run
 
 sys.path.append(os.path.join(TOP, "companions"))
@@ -47,7 +47,9 @@ CAREFUL_COUNT, CAREFUL_AT_ONCE = 80, 10
 # and of which kinds there have to be so many among them.
 SPREAD_FIRST, SPREAD_COUNT, SPREAD_AT_ONCE = 45_000, 400, 50
 LEAST_SPREAD = {"failover": 200, "permit that starts": 50, "permit that calls back": 20, "takeover": 100, "permission": 100,
-                agreed_calls.LAST_BOOT: 1_000}
+                agreed_calls.LAST_BOOT: 2_000}
+# How they are made.
+MADE_SPREAD = (gathering, gathering_apart, loss, loss_of_several, moving, returning)
 # At least such shares of the sane rehearsals, and of their commands, have to be within the conditions.
 LEAST_REHEARSALS, LEAST_COMMANDS = 0.1, 0.2
 PARTING = os.path.join(TOP, "tests", "parting")
@@ -381,7 +383,7 @@ def small_ones(program: str) -> Iterator[Test]:
 
 def spread_ones(program: str, seeds: range) -> Iterator[Test]:
     """Rehearsals in which nodes gather, and distributed applications are lost and move: what is of an agreed kind is answered alike."""
-    found = [judged(program, make(seed)) for seed in seeds for make in (gathering, loss, loss_of_several, moving, returning)]
+    found = [judged(program, make(seed)) for seed in seeds for make in MADE_SPREAD]
     for one in found:
         other = next((kind for kind, is_alike in one.proved if not is_alike), None)
         yield f"both rules alike, agreed kinds, cluster {one.name}", None if other is None else f"{other} is answered otherwise"

@@ -28,7 +28,7 @@ from live_conditions import lacks_lists
 from live_told import Lines, Told, by_model, by_program, now_of
 from orderly import At, Kind, hangs
 from random_live import KINDS, Rehearsal, rehearsal, sane, wild
-from random_spread import beginning, gathering, loss, loss_of_several, moving, returning
+from random_spread import beginning, gathering, gathering_apart, loss, loss_of_several, moving, returning
 from support import TOP
 
 from rehearse_tools.inputs import is_command, split_input, words_of
@@ -214,8 +214,8 @@ def returns(_program: str, seeds: range) -> Iterator[Test]:
 
 
 def gatherings(_program: str, seeds: range) -> Iterator[Test]:
-    """Clusters all of whose nodes boot."""
-    return (yield from proved_alike("boot of all nodes", map(gathering, seeds)))
+    """Clusters all of whose nodes boot, with lists of all nodes, and with lists that lack some."""
+    return (yield from proved_alike("boot of all nodes", (make(seed) for seed in seeds for make in (gathering, gathering_apart))))
 
 
 def losses_of_several(_program: str, seeds: range) -> Iterator[Test]:

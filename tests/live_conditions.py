@@ -8,6 +8,7 @@ rules; and of each condition, how many rehearsals it is the first to be broken i
 within the conditions. Exit status: 0 none differs within the conditions, 1 some do, 2 the folder has no records.
 """
 import copy
+import graphlib
 import json
 import os
 import random
@@ -125,6 +126,27 @@ def lacks_lists(cluster: ClusterFile) -> bool:
     """A node doesn't wait for all others, or has no timeout."""
     return any(node.wait in (None, "undefined", 0) or not set(cluster.nodes) - {node.name} <= {*node.mandatory, *node.optional}
                for node in cluster.nodes.values())
+
+
+def first_nodes(cluster: ClusterFile, forbidden: dict[str, list[str]]) -> dict[str, Optional[str]]:
+    """Of each distributed application that is booted, the first node of its list at which it isn't forbidden."""
+    booted = {app for node in cluster.nodes.values() for app, _ in node.boot}
+    return {app: next((node for node in entry.nodes if app not in forbidden[node]), None)
+            for app, entry in cluster.entries.items() if app in booted}
+
+
+def boot_in_order_but_for_one(cluster: ClusterFile, first: dict[str, Optional[str]]) -> bool:
+    """Nodes boot what is distributed in one order, and all of it that one of them doesn't boot is to run first at one and the same node."""
+    lists = [[app for app, _ in node.boot if app in cluster.entries] for node in cluster.nodes.values()]
+    behind: dict[str, set[str]] = {}
+    for apps in lists:
+        for one, other in zip(apps, apps[1:]):
+            behind.setdefault(other, set()).add(one)
+    try:
+        graphlib.TopologicalSorter(behind).prepare()
+    except graphlib.CycleError:
+        return False
+    return all(len({node for app, node in first.items() if app not in apps}) <= 1 for apps in lists)
 
 
 def has_other_profile(cluster: ClusterFile) -> bool:

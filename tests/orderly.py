@@ -7,7 +7,7 @@ from dataclasses import dataclass
 from typing import Optional
 
 from agreement import has_tuple
-from live_conditions import lacks_lists
+from live_conditions import boot_in_order_but_for_one, first_nodes, lacks_lists
 from live_told import Lines, Told, now_of
 
 from rehearse_tools.inputs import words_of
@@ -107,22 +107,22 @@ def is_return(at: At) -> bool:
     return is_such and at.told.answer[0] == "ok" and all(at.is_up(node) for node in at.cluster.nodes if node != at.node)
 
 
-def boots_alike(at: At) -> bool:
-    """All nodes boot the same distributed applications, in the same order, and each application behind what it needs; what isn't
-    distributed is permitted where it is booted. No list has a tuple."""
+def boots_in_order(at: At) -> bool:
+    """Nodes boot what is distributed in one order, and what one of them doesn't boot is left to one node (`boot_in_order_but_for_one`).
+    Each application stands behind what it needs; what isn't distributed is permitted where it is booted. No list has a tuple."""
     lists = {node.name: [app for app, _ in node.boot] for node in at.cluster.nodes.values()}
-    spread = [[app for app in apps if app in at.cluster.entries] for apps in lists.values()]
+    forbidden = {node: [app for app in at.cluster.apps if (f"{node}  forbidden {app}", 1) in at.before[1]] for node in lists}
     early = any(need in at.cluster.apps and need not in apps[:place]
                 for apps in lists.values() for place, app in enumerate(apps) for need in at.cluster.apps[app].needs)
-    forbidden = any(app in apps and app not in at.cluster.entries and (f"{node}  forbidden {app}", 1) in at.before[1]
-                    for node, apps in lists.items() for app in at.cluster.apps)
-    return all(one == spread[0] for one in spread) and not early and not forbidden and not has_tuple(at.cluster)
+    is_barred = any(app in apps and app not in at.cluster.entries for node, apps in lists.items() for app in forbidden[node])
+    is_one = boot_in_order_but_for_one(at.cluster, first_nodes(at.cluster, forbidden))
+    return is_one and not early and not is_barred and not has_tuple(at.cluster)
 
 
 def is_last_boot(at: At) -> bool:
-    """The last node boots where nothing hangs, each node waits for all others, all others wait for this one, and all boot the same
-    distributed applications in one order; no start fails."""
-    if not is_call(at, "boot") or lacks_lists(at.cluster) or not boots_alike(at):
+    """The last node boots where nothing hangs, each node waits for all others, all others wait for this one, and all boot what is
+    distributed in one order, each but for what is left to one node; no start fails."""
+    if not is_call(at, "boot") or lacks_lists(at.cluster) or not boots_in_order(at):
         return False
     others = [node for node in at.cluster.nodes if node != at.node]
     waiting = all(any(line.startswith(f"node {node} waiting ") for line, _ in at.before[1]) for node in others)
@@ -347,8 +347,8 @@ RETURNED = (
          is_return, 200),)
 # in those in which all nodes boot, of several applications,
 GATHERED = (
-    Kind("A boot of the last node, where each node waits for all others and all boot the same distributed applications in one order",
-         is_last_boot, 150),)
+    Kind("A boot of the last node, where each node waits for all others and all boot what is distributed in one order, each but for what "
+         "is left to one node", is_last_boot, 350),)
 # and in those in which several applications are lost with a node.
 LOST_TOGETHER = (
     Kind("A tick through failovers at several moments, one application at each, whose lists have no tuple", is_tick_through_losses, 100),)

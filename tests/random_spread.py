@@ -99,6 +99,20 @@ def gathering(seed: int) -> Rehearsal:
     return booted(seed, cluster, chance.sample(cluster.nodes, len(cluster.nodes)), ["show"])
 
 
+def gathering_apart(seed: int) -> Rehearsal:
+    """A random cluster with several applications, some of which leave out some nodes: a node is left out of lists, and doesn't boot what
+    they are of, that all begin with one and the same other node. All nodes boot, in any order."""
+    chance = random.Random(seed)
+    cluster = several(chance, 2, [1_000] * chance.randint(2, 4))
+    for node in cluster.nodes:
+        first = chance.choice(cluster.nodes)
+        apps = [app for app, spread in cluster.spreads.items() if spread.groups[0] == [first] != [node]]
+        for app in chance.sample(apps, chance.randint(0, len(apps))):
+            cluster.spreads[app].groups.remove([node])
+            cluster.boot[node] = [row for row in cluster.boot[node] if row[0] != app]
+    return booted(seed, cluster, chance.sample(cluster.nodes, len(cluster.nodes)), ["show"])
+
+
 def loss_of_several(seed: int) -> Rehearsal:
     """A random cluster with two or three distributed applications of different timeouts, most of which run at one node: all nodes boot,
     that one is lost, and all their failover times pass in one tick; in some, an operator stops one at a node before, and starts it again.
